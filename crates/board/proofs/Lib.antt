@@ -1,0 +1,4 @@
+-- The laws that proofs here and above cite.
+pub mod Addresses
+pub mod Handles
+pub mod Numbers

@@ -1,0 +1,94 @@
+-- Laws of the numbers of w bytes, for every w: their bound, what they depend on, their digits, and what the digits of a value make.
+use mathlib.Core.Path.{_≡_, refl, sym, ap, _∙_}
+use Prim.Native.Nat.{ℕ, zero, suc, _+_, _-_, _*_, _/_, _%_, _<_, _^_}
+use native.Mathlib.Omega.{arith}
+use native.Mathlib.Numerals.{add-one}
+use native.Mathlib.Nat.{add-zero, zero-add, pow-suc, pow-succ', div-one, div-div-eq-div-mul, one-le-pow}
+use lib.Dec.{lit<}
+use lib.Arith.{mod-mul}
+use Rattle.board.specs.Numbers.{little, big}
+
+-- no bytes make 0
+none : (f : ℕ → ℕ) (at : ℕ) → little 0 f at ≡ 0
+unfolding little
+none f at = refl
+
+-- one place on, said two ways
+next : (at i : ℕ) → at + 1 + i ≡ at + suc i
+next at i = omega arith
+
+-- a number of w bytes is below 256 ^ w
+pub little-below : (w : ℕ) (f : ℕ → ℕ) (at : ℕ) → little w f at < 256 ^ w
+unfolding little
+little-below zero f at = lit< tt
+little-below (suc w) f at = rw pow-suc (omega (arith, little-below w f (at + 1)))
+
+-- a number depends on its w bytes alone, wherever they stand
+pub little-same : (w : ℕ) (f g : ℕ → ℕ) (a b : ℕ) → ((i : ℕ) → i < w → f (a + i) ≡ g (b + i)) → little w f a ≡ little w g b
+unfolding little
+little-same zero f g a b same = refl
+little-same (suc w) f g a b same =
+    let first : f a ≡ g b = rw (add-zero a, add-zero b) at (same 0 (omega arith)) in
+    rw (first, little-same w f g (a + 1) (b + 1) (λ i h. rw (next a i, next b i) (same (suc i) (omega arith))))
+
+-- the bytes from a place may be taken to stand at 0
+pub little-from : (w : ℕ) (f : ℕ → ℕ) (at : ℕ) → little w f at ≡ little w (λ i. f (at + i)) 0
+little-from w f at = little-same w f (λ i. f (at + i)) at 0 (λ i h. rw zero-add)
+
+-- the least byte of a number, where it is below 256, is added as it is
+pub little-plain : (w : ℕ) (f : ℕ → ℕ) (at : ℕ) → f at < 256 → little (suc w) f at ≡ f at + 256 * little w f (at + 1)
+unfolding little
+little-plain w f at h = omega arith
+
+-- one byte more at the end is added above the others
+pub little-last : (w : ℕ) (f : ℕ → ℕ) (at : ℕ) → little (suc w) f at ≡ little w f at + 256 ^ w * (f (at + w) % 256)
+unfolding little
+little-last zero f at = rw (add-zero at) (omega arith)
+little-last (suc w) f at = rw (little-last w f (at + 1), next, pow-succ') (omega arith)
+
+-- digit i of a number, the least first, is its byte i
+pub little-digit : (w : ℕ) (f : ℕ → ℕ) (at i : ℕ) → i < w → little w f at / 256 ^ i % 256 ≡ f (at + i) % 256
+unfolding little
+little-digit zero f at i h = absurd (omega arith)
+little-digit (suc w) f at zero h = rw (add-zero at) (omega arith)
+little-digit (suc w) f at (suc i) h =
+    let rest : (f at % 256 + 256 * little w f (at + 1)) / 256 ≡ little w f (at + 1) = omega arith in
+    rw (pow-succ', ← div-div-eq-div-mul, rest, ← next at i) (little-digit w f (at + 1) i (omega arith))
+
+-- w digits of a value, from digit `at`, make the value's part there
+pub little-part : (w v at : ℕ) → little w (λ i. v / 256 ^ i) at ≡ v / 256 ^ at % 256 ^ w
+unfolding little
+little-part zero v at = omega arith
+little-part (suc w) v at =
+    let up : v / 256 ^ (at + 1) ≡ v / 256 ^ at / 256 = rw (add-one, pow-suc) (sym (div-div-eq-div-mul v (256 ^ at) 256)) in
+    rw (little-part w v (at + 1), up, pow-suc 256 w, mod-mul (v / 256 ^ at) (one-le-pow w 256 (lit< tt)) (lit< tt)) (omega arith)
+
+-- the w lowest digits of a value make the value modulo 256 ^ w
+pub little-of : (w v : ℕ) → little w (λ i. v / 256 ^ i) 0 ≡ v % 256 ^ w
+little-of w v = little-part w v 0 ∙ rw div-one
+
+-- the two byte orders are each other's reverse
+pub big-reversed : (w : ℕ) (f : ℕ → ℕ) (at : ℕ) → big w f at ≡ little w (λ i. f (at + (w - suc i))) 0
+unfolding big
+big-reversed zero f at = sym (none _ 0)
+big-reversed (suc w) f at =
+    let low : little w (λ i. f (at + (suc w - suc i))) 0 ≡ big w f (at + 1) = little-same w _ _ 0 0 (λ i h. ap f (omega arith)) ∙ sym (big-reversed w f (at + 1)) in
+    let top : at + (suc w - suc (0 + w)) ≡ at = omega arith in
+    rw (little-last, low, top) (omega arith)
+
+-- the bound holds highest byte first too
+pub big-below : (w : ℕ) (f : ℕ → ℕ) (at : ℕ) → big w f at < 256 ^ w
+big-below w f at = rw big-reversed (little-below w _ 0)
+
+-- and that a number depends on its w bytes alone
+pub big-same : (w : ℕ) (f g : ℕ → ℕ) (a b : ℕ) → ((i : ℕ) → i < w → f (a + i) ≡ g (b + i)) → big w f a ≡ big w g b
+big-same w f g a b same =
+    big-reversed w f a ∙ little-same w _ _ 0 0 (λ i h. same (w - suc (0 + i)) (omega arith)) ∙ sym (big-reversed w g b)
+
+-- digit i of a number, the least first, is its byte i from the end
+pub big-digit : (w : ℕ) (f : ℕ → ℕ) (at i : ℕ) → i < w → big w f at / 256 ^ i % 256 ≡ f (at + (w - suc i)) % 256
+big-digit w f at i h = rw big-reversed (rw zero-add at (little-digit w (λ j. f (at + (w - suc j))) 0 i h))
+
+-- the w lowest digits of a value, highest first, make the value modulo 256 ^ w
+pub big-of : (w v : ℕ) → big w (λ i. v / 256 ^ (w - suc i)) 0 ≡ v % 256 ^ w
+big-of w v = big-reversed w _ 0 ∙ little-same w _ _ 0 0 (λ i h. ap (λ j. v / 256 ^ j) (omega arith)) ∙ little-of w v

@@ -1,0 +1,15 @@
+-- Handles: document 01, "The modelled board".
+use Prim.Native.Nat.{ℕ, min}
+use mathlib.Core.Bool.{Bool, _&&_}
+use mathlib.Core.List.{List}
+use lib.Dec.{leb}
+use lib.ListN.{getD}
+use Rattle.board.specs.Layout.{functionsMax}
+
+-- a count above 16 is read as 16
+abbrev pub functionCount : List ℕ → ℕ
+functionCount header = min (getD header 0 0) functionsMax
+
+-- the handle of the function at place i is i + 1; every other number is a bad handle
+abbrev pub isHandle : List ℕ → ℕ → Bool
+isHandle header handle = leb 1 handle && leb handle (functionCount header)

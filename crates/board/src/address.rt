@@ -1,0 +1,35 @@
+// PCI bus addresses and physical CPU addresses, and the only two ways between them.
+ghost use mathlib.Core.Path.{_≡_};
+ghost use Prim.Native.Nat.{_+_, _-_, _%_, _^_};
+ghost use Rattle.board.specs.Addresses.{cpuAddress, busAddress};
+
+// An address on the PCI bus: what data calls and base registers speak of.
+pub struct BusAddress(pub u32);
+
+// The address at which the CPU sees a bus address.
+pub struct CpuAddress(pub u32);
+
+// a - b, modulo 2^32.
+fn minus(a: u32, b: u32) -> u32
+    ensures { λ r. ⌜ r ≡ (a + (2 ^ 32 - b)) % 2 ^ 32 ⌝ }
+{
+    std::num::wrapping_sub_u32(a, b)
+}
+
+impl BusAddress {
+    // The offset added, modulo 2^32.
+    pub fn to_cpu(self, offset: u32) -> CpuAddress
+        ensures { λ r. ⌜ r ≡ cpuAddress offset self ⌝ }
+    {
+        CpuAddress(std::num::wrapping_add_u32(self.0, offset))
+    }
+}
+
+impl CpuAddress {
+    // The offset taken off, modulo 2^32.
+    pub fn to_bus(self, offset: u32) -> BusAddress
+        ensures { λ r. ⌜ r ≡ busAddress offset self ⌝ }
+    {
+        BusAddress(minus(self.0, offset))
+    }
+}

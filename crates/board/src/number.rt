@@ -1,0 +1,101 @@
+// Bytes and the numbers that they make: total readers, 0 past the end, and powers of two.
+ghost use mathlib.Core.Path.{_≡_};
+ghost use Prim.Native.Nat.{_+_, _*_, _%_, _<_};
+ghost use lib.ListN.{getD};
+ghost use Rattle.board.specs.Numbers.{byteAt, bytes, little, big, power};
+
+// How many bytes an access or a number has: 1, 2 or 4.
+pub enum Width {
+    Byte,
+    Word,
+    Long,
+}
+
+// The byte at a place, 0 past the end.
+pub fn byte_at(s: &[u8], at: usize) -> u8
+    ensures { λ r. ⌜ r ≡ byteAt (now (s .entry)) at ⌝ }
+{
+    if at < s.len() { s[at] } else { 0 }
+}
+
+// A byte as a number.
+fn wide(b: u8) -> u32
+    ensures { λ r. ⌜ (r ≡ b) × (r < 256) ⌝ }
+{
+    b as u32
+}
+
+// The byte i places after a place, 0 past the end.
+fn byte_after(s: &[u8], at: usize, i: u8) -> u8
+    ensures { λ r. ⌜ r ≡ byteAt (now (s .entry)) (at + i) ⌝ }
+{
+    if s.len() <= at {
+        return 0;
+    }
+    byte_at(s, at + i as usize)
+}
+
+// The number of four bytes, least first.
+fn number(a: u8, b: u8, c: u8, d: u8) -> u32
+    ensures { λ r. ⌜ r ≡ a % 256 + 256 * (b % 256 + 256 * (c % 256 + 256 * (d % 256))) ⌝ }
+{
+    wide(a) + 256 * wide(b) + 65536 * wide(c) + 16777216 * wide(d)
+}
+
+// The number at a place, least byte first.
+pub fn little_at(s: &[u8], at: usize, width: Width) -> u32
+    ensures { λ r. ⌜ r ≡ little (bytes width) (byteAt (now (s .entry))) at ⌝ }
+{
+    let a = byte_after(s, at, 0);
+    match width {
+        Width::Byte => number(a, 0, 0, 0),
+        Width::Word => number(a, byte_after(s, at, 1), 0, 0),
+        Width::Long => {
+            number(
+                a,
+                byte_after(s, at, 1),
+                byte_after(s, at, 2),
+                byte_after(s, at, 3),
+            )
+        }
+    }
+}
+
+// The number at a place, highest byte first.
+pub fn big_at(s: &[u8], at: usize, width: Width) -> u32
+    ensures { λ r. ⌜ r ≡ big (bytes width) (byteAt (now (s .entry))) at ⌝ }
+{
+    let a = byte_after(s, at, 0);
+    match width {
+        Width::Byte => number(a, 0, 0, 0),
+        Width::Word => number(byte_after(s, at, 1), a, 0, 0),
+        Width::Long => {
+            number(
+                byte_after(s, at, 3),
+                byte_after(s, at, 2),
+                byte_after(s, at, 1),
+                a,
+            )
+        }
+    }
+}
+
+// The number at a place of a lent array, 0 past the end.
+pub fn u32_at(s: &[u32], at: usize) -> u32
+    ensures { λ r. ⌜ r ≡ getD (now (s .entry)) at 0 ⌝ }
+{
+    if at < s.len() { s[at] } else { 0 }
+}
+
+pub fn u64_at(s: &[u64], at: usize) -> u64
+    ensures { λ r. ⌜ r ≡ getD (now (s .entry)) at 0 ⌝ }
+{
+    if at < s.len() { s[at] } else { 0 }
+}
+
+// 2 to the power k, and 0 for k past 31.
+pub fn power(k: u32) -> u64
+    ensures { λ r. ⌜ r ≡ power k ⌝ }
+{
+    if k < 32 { 1u64 << k } else { 0 }
+}

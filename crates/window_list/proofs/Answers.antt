@@ -1,0 +1,78 @@
+-- The listing answers for window n of the list, in refusals too.
+use Prim.Native.Nat.{ℕ, zero, suc, _+_, _/_, _%_, _^_, _≤_, _<_}
+use native.Mathlib.Numerals.{add-one}
+use native.Mathlib.Omega.{arith}
+use lib.Dec.{eqb}
+use borrow.Author.Tests.{eq-eqb, ne-eqb}
+use mathlib.Core.Bool.{Bool, true, false, cond}
+use mathlib.Core.Path.{_≡_, refl, ap, sym, _∙_}
+use mathlib.Core.List.{List, [], _∷_}
+use lib.ListN.{length, getD, drop, drop-of-length-le}
+use lib.Seq.{drop-cons}
+use Rattle.board.specs.Statuses.{deviceNotFound}
+use Rattle.window_list.specs.declared.listing.Listing.{Listing}
+use Rattle.window_list.specs.declared.listing.Listing.the-variants.{Refused}
+use Rattle.window_list.specs.Windows.{Window}
+use Rattle.window_list.specs.Kept.{unpack, unpacked}
+use Rattle.window_list.specs.Listing.{inSpace, found, listing, numberOf, spaceNumber, startNumber, lengthNumber, valuesOf, listedNumber, listedValues, Lists}
+
+-- counting the windows of a kept list from place j: none at a number that is no window, else one and those after it
+pub counted-none : (l : List ℕ) (j : ℕ) → j < length l → getD l j 0 / 2 % 2 ^ 17 ≡ 0 → length (unpacked (drop j l)) ≡ 0
+unfolding unpacked
+counted-none l j h z = rw (drop-cons l j 0 h, eq-eqb (getD l j 0 / 2 % 2 ^ 17) 0 z)
+
+pub counted-one : (l : List ℕ) (j : ℕ) → j < length l → (getD l j 0 / 2 % 2 ^ 17 ≡ 0 → ⊥)
+    → length (unpacked (drop j l)) ≡ suc (length (unpacked (drop (j + 1) l)))
+unfolding unpacked
+counted-one l j h n = rw (drop-cons l j 0 h, ne-eqb (getD l j 0 / 2 % 2 ^ 17) 0 n, add-one)
+
+pub counted-end : (l : List ℕ) (j : ℕ) → length l ≤ j → length (unpacked (drop j l)) ≡ 0
+unfolding unpacked
+counted-end l j h = rw (drop-of-length-le l h)
+
+number-is : (l : List Window) (n : ℕ) → numberOf (listing l n) ≡ listedNumber l n
+unfolding listing listedNumber
+number-is [] n = refl
+number-is (w ∷ l) zero = refl
+number-is (w ∷ l) (suc n) = number-is l n
+
+values-are : (l : List Window) (n : ℕ) → valuesOf (listing l n) ≡ listedValues l n
+unfolding listing listedValues
+values-are [] n = refl
+values-are (w ∷ l) zero = by (eqb (w .space) 1)
+  where
+    by : (s : Bool)
+        → spaceNumber (inSpace s (w .start) (w .length)) ∷ startNumber (inSpace s (w .start) (w .length)) ∷ lengthNumber (inSpace s (w .start) (w .length)) ∷ w .handle ∷ w .base ∷ cond (w .contested) 1 0 ∷ []
+        ≡ cond s 1 0 ∷ w .start ∷ w .length ∷ w .handle ∷ w .base ∷ cond (w .contested) 1 0 ∷ []
+    by true = refl
+    by false = refl
+values-are (w ∷ l) (suc n) = values-are l n
+
+lists : (l : List Window) (n : ℕ) (r : Listing) → r ≡ listing l n → Lists l n r
+lists l n r e = record { answer = e; number = ap numberOf e ∙ number-is l n; values = ap valuesOf e ∙ values-are l n }
+
+past : (l : List Window) (n : ℕ) → length l ≤ n → Refused deviceNotFound ≡ listing l n
+unfolding listing
+past [] n h = refl
+past (w ∷ l) zero h = absurd (omega arith)
+past (w ∷ l) (suc n) h = past l n (omega arith)
+
+-- past the end
+pub lists-past : (l : List Window) (n : ℕ) → length l ≤ n → Lists l n (Refused deviceNotFound)
+lists-past l n h = lists l n (Refused deviceNotFound) (past l n h)
+
+at : (l : List ℕ) (n : ℕ) → n < length (unpacked l) → found (unpack (getD l n 0)) ≡ listing (unpacked l) n
+unfolding unpacked listing
+at [] n h = absurd (omega arith)
+at (w ∷ l) n h = by (eqb (unpack w .length) 0) n h (at l)
+  where
+    by : (b : Bool) (n : ℕ) → n < length (cond b [] (unpack w ∷ unpacked l))
+        → ((m : ℕ) → m < length (unpacked l) → found (unpack (getD l m 0)) ≡ listing (unpacked l) m)
+        → found (unpack (getD (w ∷ l) n 0)) ≡ listing (cond b [] (unpack w ∷ unpacked l)) n
+    by true n h ih = absurd (omega arith)
+    by false zero h ih = refl
+    by false (suc n) h ih = ih n (omega arith)
+
+-- the number at place n says window n
+pub lists-at : (l : List ℕ) (n : ℕ) (r : Listing) → n < length (unpacked l) → r ≡ found (unpack (getD l n 0)) → Lists (unpacked l) n r
+lists-at l n r h e = lists (unpacked l) n r (e ∙ at l n h)

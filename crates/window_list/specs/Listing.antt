@@ -1,0 +1,69 @@
+-- The listing: document 01, "Windows", last sentence, and "Numbers handed back".
+use Prim.Native.Nat.{ℕ, zero, suc}
+use mathlib.Core.Bool.{Bool, true, false, cond}
+use mathlib.Core.List.{List, [], _∷_}
+use mathlib.Core.Path.{_≡_}
+use lib.Dec.{eqb}
+use lib.IntN.{ℤ}
+use lib.ListN.{replicate}
+use Rattle.board.specs.declared.status.Status.{Status}
+use Rattle.board.specs.Statuses.{successful, deviceNotFound}
+use Rattle.window_list.specs.declared.listing.ListedWindow.{ListedWindow}
+use Rattle.window_list.specs.declared.listing.ListedWindow.the-variants.{Memory, Io}
+use Rattle.window_list.specs.declared.listing.Listing.{Listing}
+use Rattle.window_list.specs.declared.listing.Listing.the-variants.{Found, Refused}
+use Rattle.window_list.specs.Windows.{Window}
+
+abbrev pub inSpace : Bool → ℕ → ℕ → ListedWindow
+inSpace true start length = Io (record { 0 = start }) length
+inSpace false start length = Memory (record { 0 = start }) length
+
+-- the answer that hands back a window
+abbrev pub found : Window → Listing
+found w = Found (inSpace (eqb (w .space) 1) (w .start) (w .length)) (w .handle) (w .base) (w .contested)
+
+-- window n of a list, from 0; past the end DEVICE_NOT_FOUND
+unfoldable pub listing : List Window → ℕ → Listing
+listing [] n = Refused deviceNotFound
+listing (w ∷ l) zero = found w
+listing (w ∷ l) (suc n) = listing l n
+
+-- the number of an answer, and its values: space (1 for I/O), start, length, handle, base register, contested (1 where it is)
+abbrev pub numberOf : Listing → ℤ
+numberOf (Found w handle base contested) = successful .0
+numberOf (Refused status) = status .0
+
+abbrev pub spaceNumber : ListedWindow → ℕ
+spaceNumber (Memory start length) = 0
+spaceNumber (Io start length) = 1
+
+abbrev pub startNumber : ListedWindow → ℕ
+startNumber (Memory start length) = start .0
+startNumber (Io start length) = start .0
+
+abbrev pub lengthNumber : ListedWindow → ℕ
+lengthNumber (Memory start length) = length
+lengthNumber (Io start length) = length
+
+abbrev pub valuesOf : Listing → List ℕ
+valuesOf (Found w handle base contested) =
+    spaceNumber w ∷ startNumber w ∷ lengthNumber w ∷ handle ∷ base ∷ cond contested 1 0 ∷ []
+valuesOf (Refused status) = replicate 6 0
+
+-- document 01's number and values for window n of a list: zeros past the end
+unfoldable pub listedNumber : List Window → ℕ → ℤ
+listedNumber [] n = deviceNotFound .0
+listedNumber (w ∷ l) zero = successful .0
+listedNumber (w ∷ l) (suc n) = listedNumber l n
+
+unfoldable pub listedValues : List Window → ℕ → List ℕ
+listedValues [] n = replicate 6 0
+listedValues (w ∷ l) zero =
+    cond (eqb (w .space) 1) 1 0 ∷ w .start ∷ w .length ∷ w .handle ∷ w .base ∷ cond (w .contested) 1 0 ∷ []
+listedValues (w ∷ l) (suc n) = listedValues l n
+
+-- an answer is window n of a list, and hands back its number and values
+pub record Lists (l : List Window) (n : ℕ) (r : Listing) : Type 0 where
+  pub answer : r ≡ listing l n
+  pub number : numberOf r ≡ listedNumber l n
+  pub values : valuesOf r ≡ listedValues l n

@@ -1,0 +1,85 @@
+-- What the window list means: statements alone, proved in proofs/Meaning.antt and proofs/KeptArray.antt.
+use Prim.Native.Nat.{ℕ, _+_, _≤_, _<_}
+use mathlib.Core.Bool.{Bool, true, false, _&&_, cond}
+use mathlib.Core.List.{List, [], _∷_}
+use mathlib.Core.Logic.{_↔_, _⊎_}
+use mathlib.Core.Path.{_≡_}
+use lib.Dec.{eqb}
+use Rattle.board.specs.Handles.{functionCount}
+use Rattle.board.specs.Layout.{bases, exponent, registerByte, command, baseRegister}
+use Rattle.window_list.specs.Windows.{Window, end, isOpen, windowOf, withMark, before, windowList}
+use Rattle.window_list.specs.Kept.{unpacked, keptList}
+
+abbrev pub In : Window → List Window → Type 0
+In w [] = ⊥
+In w (v ∷ l) = (w ≡ v) ⊎ In w l
+
+abbrev pub Every : (Window → Type 0) → List Window → Type 0
+Every P [] = Unit {0}
+Every P (w ∷ l) = P w × Every P l
+
+-- how many of a list a test holds of
+abbrev pub howMany : (Window → Bool) → List Window → ℕ
+howMany p [] = 0
+howMany p (w ∷ l) = cond (p w) 1 0 + howMany p l
+
+abbrev pub sameRegister : Window → Window → Bool
+sameRegister v w = eqb (w .handle) (v .handle) && eqb (w .base) (v .base)
+
+-- w is the window of an open base register; its mark plays no part
+pub record OpenAt (count : ℕ) (k r : ℕ → ℕ → ℕ) (w : Window) : Type 0 where
+  pub function : ℕ
+  pub register : ℕ
+  pub there : function < count
+  pub six : register < bases
+  pub opened : isOpen (k function register) (baseRegister (r function) register) (command (r function)) ≡ true
+  pub same : withMark false w ≡ windowOf (k function register) (baseRegister (r function) register) (function + 1) register
+
+-- v is a window of another base register, of w's space, and an address lies in both
+pub record Contests (w v : Window) : Type 0 where
+  pub other : v .handle ≡ w .handle → v .base ≡ w .base → ⊥
+  pub space : v .space ≡ w .space
+  pub address : ℕ
+  pub from-v : v .start ≤ address
+  pub to-v : address < end v
+  pub from-w : w .start ≤ address
+  pub to-w : address < end w
+
+-- another open window, of any function, contests it
+abbrev pub Contested : ℕ → (ℕ → ℕ → ℕ) → (ℕ → ℕ → ℕ) → Window → Type 0
+Contested count k r w = (v : Window) × OpenAt count k r v × Contests w v
+
+-- each before all that follow
+abbrev pub Ascending : List Window → Type 0
+Ascending [] = Unit {0}
+Ascending (w ∷ l) = Every (λ v. before w v ≡ true) l × Ascending l
+
+-- every open window, once, with its mark, and nothing else; in order
+pub record Means (count : ℕ) (k r : ℕ → ℕ → ℕ) (l : List Window) : Type 0 where
+  pub listed : (w : Window) → In w l ↔ (OpenAt count k r w × ((w .contested ≡ true) ↔ Contested count k r w))
+  pub once : (w : Window) → In w l → howMany (sameRegister w) l ≡ 1
+  pub ascending : Ascending l
+
+abbrev pub ListMeans : Type 0
+ListMeans =
+    (header records registers : List ℕ)
+    → Means (functionCount header) (exponent records) (registerByte registers) (windowList header records registers)
+
+-- the kept numbers, unpacked, are the list
+abbrev pub KeptIsList : Type 0
+KeptIsList =
+    (header records registers : List ℕ)
+    → unpacked (keptList (windowList header records registers)) ≡ windowList header records registers
+
+-- the command byte and the base registers
+abbrev pub Watched : ℕ → Type 0
+Watched at = (at ≡ 0x04) ⊎ ((0x10 ≤ at) × (at < 0x28))
+
+-- the list depends on the count, the records' exponents and the watched registers of the functions there are, and on nothing else
+abbrev pub ListDependsOn : Type 0
+ListDependsOn =
+    (header header′ records records′ registers registers′ : List ℕ)
+    → functionCount header ≡ functionCount header′
+    → ((i b : ℕ) → i < functionCount header → b < bases → exponent records i b ≡ exponent records′ i b)
+    → ((i at : ℕ) → i < functionCount header → Watched at → registerByte registers i at ≡ registerByte registers′ i at)
+    → windowList header records registers ≡ windowList header′ records′ registers′

@@ -1,0 +1,83 @@
+// The listing: the windows of the kept list, one by one.
+use crate::kept::base_of;
+use crate::kept::handle_of;
+use crate::kept::is_contested;
+use crate::kept::is_io;
+use crate::kept::length_of;
+use crate::kept::start_of;
+use board::address::BusAddress;
+use board::layout::Windows;
+use board::number::u64_at;
+use board::status::Status;
+ghost use mathlib.Core.Path.{_≡_};
+ghost use lib.ListN.{length};
+ghost use Rattle.window_list.specs.Kept.{unpack, unpacked};
+ghost use Rattle.window_list.specs.Listing.{inSpace, found, Lists};
+
+// A window in its space, with its start and length.
+pub enum ListedWindow {
+    Memory { start: BusAddress, length: u32 },
+    Io { start: BusAddress, length: u32 },
+}
+
+// An answer of the listing.
+pub enum Listing {
+    Found {
+        window: ListedWindow,
+        handle: u32,
+        base: u32,
+        contested: bool,
+    },
+    Refused(Status),
+}
+
+// How many windows a kept list has: those before the first number that is no window.
+fn kept_count(list: &[u64]) -> usize
+    ensures { λ r. ⌜ r ≡ length (unpacked (now (list .entry))) ⌝ }
+{
+    let mut j = 0;
+    while j < list.len() {
+        if length_of(list[j]) == 0 {
+            return j;
+        }
+        j += 1;
+    }
+    j
+}
+
+fn in_space(io: bool, start: u32, length: u32) -> ListedWindow
+    ensures { λ r. ⌜ r ≡ inSpace io start length ⌝ }
+{
+    if io {
+        return ListedWindow::Io {
+            start: BusAddress(start),
+            length: length,
+        };
+    }
+    ListedWindow::Memory {
+        start: BusAddress(start),
+        length: length,
+    }
+}
+
+// The window that a kept number says.
+fn listed(w: u64) -> Listing
+    ensures { λ r. ⌜ r ≡ found (unpack w) ⌝ }
+{
+    Listing::Found {
+        window: in_space(is_io(w), start_of(w), length_of(w)),
+        handle: handle_of(w),
+        base: base_of(w),
+        contested: is_contested(w),
+    }
+}
+
+// Window n of the kept list, from 0; past the end DEVICE_NOT_FOUND.
+pub fn list_window(windows: &Windows, n: u32) -> Listing
+    ensures { λ r. ⌜ Lists (unpacked (now (windows .entry))) n r ⌝ }
+{
+    if kept_count(windows) <= n as usize {
+        return Listing::Refused(Status::DEVICE_NOT_FOUND);
+    }
+    listed(u64_at(windows, n as usize))
+}
