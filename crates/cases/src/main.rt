@@ -1,0 +1,17 @@
+// Cases of document 01, a row each: what is asked, the answer, and the sentence that gives it. The stored output was written from document 01.
+mod boards;
+mod rows;
+mod vocabulary;
+mod windows;
+
+fn main() {
+    vocabulary::numbers();
+    vocabulary::addresses();
+    vocabulary::handles();
+    vocabulary::byte_orders();
+    windows::opened();
+    windows::placed();
+    windows::contested();
+    windows::altered();
+    windows::full();
+}
