@@ -13,7 +13,6 @@ use board::layout::Records;
 use board::layout::Registers;
 use board::layout::WINDOWS;
 use board::layout::Windows;
-use board::number::u32_at;
 use window_list::listing::list_window;
 use window_list::refresh::refresh;
 
@@ -34,44 +33,37 @@ fn put_long(s: &mut [u8], at: usize, v: u32) {
     put(s, at + 3, (v / 16777216) as u8);
 }
 
-// Function i with a command byte, and its base register b with length exponent k and value x.
-fn set(
-    records: &mut Records,
-    registers: &mut Registers,
-    i: u32,
-    command: u32,
-    b: u32,
-    k: u32,
-    x: u32,
-) {
-    let record = RECORD * (i as usize);
-    let first = REGISTER_BYTES * (i as usize);
-    put(
-        records,
-        record + (ENTRIES as usize + ENTRY as usize * (b as usize)),
-        (k % 256) as u8,
-    );
-    put(registers, first + COMMAND as usize, (command % 256) as u8);
-    put_long(registers, first + (BASE_0 as usize + 4 * (b as usize)), x);
-}
+// One number a window, by its hexadecimal digits: handle (2), command (1), base register (1), length exponent (2), value (8).
+const EXPONENTS: u64 = 0x1_00000000;
 
-// Five numbers a window: function, command byte, base register, length exponent, value.
-fn set_at(windows: &[u32], j: usize, records: &mut Records, registers: &mut Registers) {
-    if windows.len() <= j {
+const BASES: u64 = 0x1_00_00000000;
+
+const COMMANDS: u64 = 0x1_0_00_00000000;
+
+const HANDLES: u64 = 0x1_0_0_00_00000000;
+
+// Sets the registers and the record that a window needs.
+fn set(records: &mut Records, registers: &mut Registers, window: u64) {
+    let handle = (window / HANDLES % 256) as usize;
+    if handle == 0 {
         return;
     }
-    let i = u32_at(windows, j);
-    let command = u32_at(windows, j + 1);
-    let b = u32_at(windows, j + 2);
-    let k = u32_at(windows, j + 3);
-    set(records, registers, i, command, b, k, u32_at(windows, j + 4));
+    let record = RECORD * (handle - 1);
+    let first = REGISTER_BYTES * (handle - 1);
+    let b = (window / BASES % 16) as usize;
+    let k = (window / EXPONENTS % 256) as u8;
+    let command = (window / COMMANDS % 16) as u8;
+    let value = (window % EXPONENTS) as u32;
+    put(records, record + (ENTRIES as usize + ENTRY as usize * b), k);
+    put(registers, first + COMMAND as usize, command);
+    put_long(registers, first + (BASE_0 as usize + 4 * b), value);
 }
 
-fn build(windows: &[u32], records: &mut Records, registers: &mut Registers) {
+fn build(windows: &[u64], records: &mut Records, registers: &mut Registers) {
     let mut j = 0;
     while j < windows.len() {
-        set_at(windows, j, records, registers);
-        j += 5;
+        set(records, registers, windows[j]);
+        j += 1;
     }
 }
 
@@ -87,7 +79,7 @@ fn show(list: &Windows) {
 }
 
 // A row with the window list of a board, and the number past its end.
-pub(crate) fn case(name: &[u8], count: u32, windows: &[u32], sentence: &[u8]) {
+pub(crate) fn case(name: &[u8], count: u32, windows: &[u64], sentence: &[u8]) {
     let header = [count, 0, 0, 0];
     let mut records = [0u8; FUNCTIONS * RECORD];
     let mut registers = [0u8; FUNCTIONS * REGISTER_BYTES];
@@ -101,9 +93,14 @@ pub(crate) fn case(name: &[u8], count: u32, windows: &[u32], sentence: &[u8]) {
 
 // All 96 windows of 64 KB each, the first base register of the first function at the highest start.
 fn build_full(records: &mut Records, registers: &mut Registers) {
-    let mut s = 0;
+    let mut s: u64 = 0;
     while s < 96 {
-        set(records, registers, s / 6, 2, s % 6, 16, 65536 * (96 - s));
+        let place = (s / 6 + 1) * HANDLES + s % 6 * BASES;
+        set(
+            records,
+            registers,
+            place + 2 * COMMANDS + 16 * EXPONENTS + 65536 * (96 - s),
+        );
         s += 1;
     }
 }

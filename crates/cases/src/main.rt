@@ -9,9 +9,11 @@ fn main() {
     vocabulary::addresses();
     vocabulary::handles();
     vocabulary::byte_orders();
+    windows::there();
     windows::opened();
     windows::placed();
     windows::contested();
+    windows::uncontested();
     windows::altered();
     windows::full();
 }

@@ -2,64 +2,56 @@
 use crate::boards::case;
 use crate::boards::case_full;
 
-// Which base registers open a window.
-pub(crate) fn opened() {
+// The functions there are.
+pub(crate) fn there() {
     case(
         b"no function",
         0,
-        &[0, 3, 0, 10, 0x80000000],
+        &[0x1_3_0_0a_80000000],
         b"Before the first load it has none.",
     );
     case(
         b"B1",
         2,
         &[
-            0,
-            3,
-            0,
-            10,
-            0x80000000,
-            1,
-            3,
-            0,
-            10,
-            0x80000400,
-            1,
-            3,
-            1,
-            4,
-            0x101,
+            0x1_3_0_0a_80000000,
+            0x2_3_0_0a_80000400,
+            0x2_3_1_04_00000101,
         ],
         b"The window list has all open windows: memory first, then by start, handle, base register",
     );
     case(
         b"a second function's record, one function",
         1,
-        &[0, 3, 0, 10, 0x80000000, 1, 3, 0, 10, 0x80000400],
+        &[0x1_3_0_0a_80000000, 0x2_3_0_0a_80000400],
         b"A board has 0 to 16 functions, in table order.",
     );
+}
+
+// Which base registers open a window.
+pub(crate) fn opened() {
     case(
         b"command 1",
         1,
-        &[0, 1, 0, 10, 0x80000000, 0, 1, 1, 4, 0x101],
+        &[0x1_1_0_0a_80000000, 0x1_1_1_04_00000101],
         b"A window is open when its command bit (04h: bit 0 for I/O, bit 1 for memory) is set",
     );
     case(
         b"command 2",
         1,
-        &[0, 2, 0, 10, 0x80000000, 0, 2, 1, 4, 0x101],
+        &[0x1_2_0_0a_80000000, 0x1_2_1_04_00000101],
         b"A window is open when its command bit (04h: bit 0 for I/O, bit 1 for memory) is set",
     );
     case(
         b"memory at 000003F0h, k 10; I/O at 1, k 4",
         1,
-        &[0, 3, 0, 10, 0x3F0, 0, 3, 1, 4, 1],
+        &[0x1_3_0_0a_000003f0, 0x1_3_1_04_00000001],
         b"and its start, the base register with bits below k cleared, is not 0.",
     );
     case(
         b"80000408h with k 10; 113h with k 2",
         1,
-        &[0, 3, 0, 10, 0x80000408, 0, 3, 1, 2, 0x113],
+        &[0x1_3_0_0a_80000408, 0x1_3_1_02_00000113],
         b"its start, the base register with bits below k cleared",
     );
 }
@@ -70,49 +62,25 @@ pub(crate) fn placed() {
         b"one start, three windows, two functions",
         2,
         &[
-            1,
-            2,
-            0,
-            12,
-            0x90000000,
-            0,
-            2,
-            1,
-            12,
-            0x90000000,
-            0,
-            2,
-            0,
-            12,
-            0x90000000,
+            0x2_2_0_0c_90000000,
+            0x1_2_1_0c_90000000,
+            0x1_2_0_0c_90000000,
         ],
         b"memory first, then by start, handle, base register; each with its contested mark.",
     );
     case(
         b"I/O at 10h, memory at FFFF0000h",
         1,
-        &[0, 3, 0, 4, 0x11, 0, 3, 1, 16, 0xFFFF0000],
+        &[0x1_3_0_04_00000011, 0x1_3_1_10_ffff0000],
         b"memory first",
     );
     case(
         b"later starts in earlier functions",
         3,
         &[
-            0,
-            2,
-            0,
-            8,
-            0x30000,
-            1,
-            2,
-            0,
-            8,
-            0x20000,
-            2,
-            2,
-            5,
-            8,
-            0x10000,
+            0x1_2_0_08_00030000,
+            0x2_2_0_08_00020000,
+            0x3_2_5_08_00010000,
         ],
         b"then by start",
     );
@@ -124,21 +92,9 @@ pub(crate) fn contested() {
         b"P11, 80000000h to 10h of handle 2",
         2,
         &[
-            0,
-            3,
-            0,
-            10,
-            0x80000000,
-            1,
-            3,
-            0,
-            10,
-            0x80000000,
-            1,
-            3,
-            1,
-            4,
-            0x101,
+            0x1_3_0_0a_80000000,
+            0x2_3_0_0a_80000000,
+            0x2_3_1_04_00000101,
         ],
         b"both memory windows contested",
     );
@@ -146,21 +102,9 @@ pub(crate) fn contested() {
         b"P11, 80000400h written back",
         2,
         &[
-            0,
-            3,
-            0,
-            10,
-            0x80000000,
-            1,
-            3,
-            0,
-            10,
-            0x80000400,
-            1,
-            3,
-            1,
-            4,
-            0x101,
+            0x1_3_0_0a_80000000,
+            0x2_3_0_0a_80000400,
+            0x2_3_1_04_00000101,
         ],
         b"writing 80000400h clears both",
     );
@@ -168,67 +112,43 @@ pub(crate) fn contested() {
         b"a long window over two short ones",
         2,
         &[
-            0,
-            2,
-            0,
-            16,
-            0x40000000,
-            1,
-            2,
-            0,
-            4,
-            0x40000010,
-            1,
-            2,
-            1,
-            4,
-            0x40008000,
-            1,
-            2,
-            2,
-            4,
-            0x40010000,
+            0x1_2_0_10_40000000,
+            0x2_2_0_04_40000010,
+            0x2_2_1_04_40008000,
+            0x2_2_2_04_40010000,
         ],
         b"It is contested when another open window of the same space, of any function, shares an address.",
     );
+}
+
+// Which are not.
+pub(crate) fn uncontested() {
     case(
         b"memory and I/O at 8000h",
         1,
-        &[0, 3, 0, 12, 0x8000, 0, 3, 1, 12, 0x8001],
+        &[0x1_3_0_0c_00008000, 0x1_3_1_0c_00008001],
         b"another open window of the same space",
     );
     case(
         b"over a closed window",
         2,
-        &[0, 2, 0, 12, 0x8000, 1, 1, 0, 12, 0x8000],
+        &[0x1_2_0_0c_00008000, 0x2_1_0_0c_00008000],
         b"another open window",
     );
     case(
         b"FFFF0000h and FFFFFC00h to the end, 00000400h",
         1,
         &[
-            0,
-            2,
-            0,
-            16,
-            0xFFFF0000,
-            0,
-            2,
-            1,
-            10,
-            0xFFFFFC00,
-            0,
-            2,
-            2,
-            10,
-            0x400,
+            0x1_2_0_10_ffff0000,
+            0x1_2_1_0a_fffffc00,
+            0x1_2_2_0a_00000400,
         ],
         b"Its end may be 2^32.",
     );
     case(
         b"FFFFFC00h alone",
         1,
-        &[0, 2, 0, 10, 0xFFFFFC00],
+        &[0x1_2_0_0a_fffffc00],
         b"Treating a sizing write's 2^32 end as 0.",
     );
 }
@@ -239,43 +159,19 @@ pub(crate) fn altered() {
         b"exponents 0, 1, 2, 16, 17, 255",
         1,
         &[
-            0,
-            2,
-            0,
-            0,
-            0x100000,
-            0,
-            2,
-            1,
-            1,
-            0x200000,
-            0,
-            2,
-            2,
-            2,
-            0x300000,
-            0,
-            2,
-            3,
-            16,
-            0x400000,
-            0,
-            2,
-            4,
-            17,
-            0x600000,
-            0,
-            2,
-            5,
-            255,
-            0x800000,
+            0x1_2_0_00_00100000,
+            0x1_2_1_01_00200000,
+            0x1_2_2_02_00300000,
+            0x1_2_3_10_00400000,
+            0x1_2_4_11_00600000,
+            0x1_2_5_ff_00800000,
         ],
         b"k outside 2..16 as no window",
     );
     case(
         b"a count of FFFFFFFFh, the sixteenth function",
-        0xFFFFFFFF,
-        &[15, 2, 5, 4, 0x1000],
+        0xffffffff,
+        &[0x10_2_5_04_00001000],
         b"count above 16 as 16",
     );
 }
@@ -299,7 +195,7 @@ pub(crate) fn full() {
     );
     case_full(
         b"96 windows, window FFFFFFFFh",
-        0xFFFFFFFF,
+        0xffffffff,
         b"searches, chain and window listing past the end",
     );
 }

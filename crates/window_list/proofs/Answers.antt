@@ -11,10 +11,10 @@ use lib.ListN.{length, getD, drop, drop-of-length-le}
 use lib.Seq.{drop-cons}
 use Rattle.board.specs.Statuses.{deviceNotFound}
 use Rattle.window_list.specs.declared.listing.Listing.{Listing}
-use Rattle.window_list.specs.declared.listing.Listing.the-variants.{Refused}
+use Rattle.window_list.specs.declared.listing.Listing.the-variants.{Found, Refused}
 use Rattle.window_list.specs.Windows.{Window}
 use Rattle.window_list.specs.Kept.{unpack, unpacked}
-use Rattle.window_list.specs.Listing.{inSpace, found, listing, numberOf, spaceNumber, startNumber, lengthNumber, valuesOf, listedNumber, listedValues, Lists}
+use Rattle.window_list.specs.Listing.{inSpace, found, listing, numberOf, valuesOf, listedNumber, listedValues, Lists}
 
 -- counting the windows of a kept list from place j: none at a number that is no window, else one and those after it
 pub counted-none : (l : List ℕ) (j : ℕ) → j < length l → getD l j 0 / 2 % 2 ^ 17 ≡ 0 → length (unpacked (drop j l)) ≡ 0
@@ -42,7 +42,7 @@ values-are [] n = refl
 values-are (w ∷ l) zero = by (eqb (w .space) 1)
   where
     by : (s : Bool)
-        → spaceNumber (inSpace s (w .start) (w .length)) ∷ startNumber (inSpace s (w .start) (w .length)) ∷ lengthNumber (inSpace s (w .start) (w .length)) ∷ w .handle ∷ w .base ∷ cond (w .contested) 1 0 ∷ []
+        → valuesOf (Found (inSpace s (w .start) (w .length)) (w .handle) (w .base) (w .contested))
         ≡ cond s 1 0 ∷ w .start ∷ w .length ∷ w .handle ∷ w .base ∷ cond (w .contested) 1 0 ∷ []
     by true = refl
     by false = refl

@@ -45,19 +45,39 @@ returns : tie.Need-returns
 unfolding little
 returns c =
     let a = c .before .before .before .before .before .args in
-    rw (c .before .enum-told .given .1, c .number .ensures, c .before .before .before .byte-after .ensures) (sym (little-from 1 (byteAt (a .s .now)) (a .at)))
+    rw (
+      c .before .enum-told .given .1,
+      c .number .ensures,
+      c .before .before .before .byte-after .ensures,
+    )
+    (sym (little-from 1 (byteAt (a .s .now)) (a .at)))
 
 returns-2 : tie.Need-returns-2
 unfolding little
 returns-2 c =
     let a = c .before .before .before .before .before .before .args in
-    rw (c .before .before .enum-told2 .given .1, c .number2 .ensures, c .before .byte-after2 .ensures, c .before .before .before .before .byte-after .ensures) (sym (little-from 2 (byteAt (a .s .now)) (a .at)))
+    rw (
+      c .before .before .enum-told2 .given .1,
+      c .number2 .ensures,
+      c .before .byte-after2 .ensures,
+      c .before .before .before .before .byte-after .ensures,
+    )
+    (sym (little-from 2 (byteAt (a .s .now)) (a .at)))
 
 returns-3 : tie.Need-returns-3
 unfolding little
 returns-3 c =
     let a = c .before .before .before .before .before .before .before .before .args in
-    rw (c .before .before .before .before .enum-told3 .given .1, c .number3 .ensures, c .before .byte-after5 .ensures, c .before .before .byte-after4 .ensures, c .before .before .before .byte-after3 .ensures, c .before .before .before .before .before .before .byte-after .ensures, ← add-zero (byteAt (a .s .now) (a .at + 3) % 256)) (sym (little-from 4 (byteAt (a .s .now)) (a .at)))
+    rw (
+      c .before .before .before .before .enum-told3 .given .1,
+      c .number3 .ensures,
+      c .before .byte-after5 .ensures,
+      c .before .before .byte-after4 .ensures,
+      c .before .before .before .byte-after3 .ensures,
+      c .before .before .before .before .before .before .byte-after .ensures,
+      ← add-zero (byteAt (a .s .now) (a .at + 3) % 256),
+    )
+    (sym (little-from 4 (byteAt (a .s .now)) (a .at)))
 
 pub little-at-spec : {M : Type 1} → statement M
 little-at-spec =

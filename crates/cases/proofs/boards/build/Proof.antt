@@ -1,4 +1,4 @@
--- `build`: each turn passes five numbers.
+-- `build`: each turn passes a window.
 use Prim.Native.Nat.{_-_}
 use lib.ListN.{length}
 use borrow.Author.Needs.{needs}
@@ -14,8 +14,14 @@ abbrev μ-loop : tie.MeasureT-loop
 loop-holds : tie.Need-loop-holds Inv-loop μ-loop
 loop-holds c = tt
 
-set-at-requires : tie.Need-set-at-requires Inv-loop μ-loop
-set-at-requires c κs = search needs
+mul-set : tie.Need-mul-set Inv-loop μ-loop
+mul-set c = search needs
+
+shared-slice-read-set : tie.Need-shared-slice-read-set Inv-loop μ-loop
+shared-slice-read-set c = search needs
+
+set-requires : tie.Need-set-requires Inv-loop μ-loop
+set-requires c κs = search needs
 
 add-j : tie.Need-add-j Inv-loop μ-loop
 add-j c = search needs
@@ -32,4 +38,14 @@ returns c = search needs
 pub build-spec : {M : Type 1} → statement M
 build-spec =
     tie.close
-    (tie.spec Inv-loop μ-loop loop-holds set-at-requires add-j loop-less loop-again returns)
+    (tie.spec
+    Inv-loop
+    μ-loop
+    loop-holds
+    mul-set
+    shared-slice-read-set
+    set-requires
+    add-j
+    loop-less
+    loop-again
+    returns)
