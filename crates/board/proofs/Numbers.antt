@@ -6,7 +6,7 @@ use native.Mathlib.Numerals.{add-one}
 use native.Mathlib.Nat.{add-zero, zero-add, pow-suc, pow-succ', div-one, div-div-eq-div-mul, one-le-pow}
 use lib.Dec.{lit<}
 use lib.Arith.{mod-mul}
-use Rattle.board.specs.Numbers.{little, big}
+use Rattle.board.specs.Numbers.{little, big, reversed}
 
 -- no bytes make 0
 none : (f : ℕ → ℕ) (at : ℕ) → little 0 f at ≡ 0
@@ -24,11 +24,11 @@ little-below zero f at = lit< tt
 little-below (suc w) f at = rw pow-suc (omega (arith, little-below w f (at + 1)))
 
 -- a number depends on its w bytes alone, wherever they stand
-pub little-same : (w : ℕ) (f g : ℕ → ℕ) (a b : ℕ) → ((i : ℕ) → i < w → f (a + i) ≡ g (b + i)) → little w f a ≡ little w g b
+pub little-same : (w : ℕ) (f g : ℕ → ℕ) (a b : ℕ) → ((i : ℕ) → i < w → f (a + i) % 256 ≡ g (b + i) % 256) → little w f a ≡ little w g b
 unfolding little
 little-same zero f g a b same = refl
 little-same (suc w) f g a b same =
-    let first : f a ≡ g b = rw (add-zero a, add-zero b) at (same 0 (omega arith)) in
+    let first : f a % 256 ≡ g b % 256 = rw (add-zero a, add-zero b) at (same 0 (omega arith)) in
     rw (first, little-same w f g (a + 1) (b + 1) (λ i h. rw (next a i, next b i) (same (suc i) (omega arith))))
 
 -- the bytes from a place may be taken to stand at 0
@@ -72,7 +72,7 @@ pub big-reversed : (w : ℕ) (f : ℕ → ℕ) (at : ℕ) → big w f at ≡ lit
 unfolding big
 big-reversed zero f at = sym (none _ 0)
 big-reversed (suc w) f at =
-    let low : little w (λ i. f (at + (suc w - suc i))) 0 ≡ big w f (at + 1) = little-same w _ _ 0 0 (λ i h. ap f (omega arith)) ∙ sym (big-reversed w f (at + 1)) in
+    let low : little w (λ i. f (at + (suc w - suc i))) 0 ≡ big w f (at + 1) = little-same w _ _ 0 0 (λ i h. ap (λ j. f j % 256) (omega arith)) ∙ sym (big-reversed w f (at + 1)) in
     let top : at + (suc w - suc (0 + w)) ≡ at = omega arith in
     rw (little-last, low, top) (omega arith)
 
@@ -81,7 +81,7 @@ pub big-below : (w : ℕ) (f : ℕ → ℕ) (at : ℕ) → big w f at < 256 ^ w
 big-below w f at = rw big-reversed (little-below w _ 0)
 
 -- and that a number depends on its w bytes alone
-pub big-same : (w : ℕ) (f g : ℕ → ℕ) (a b : ℕ) → ((i : ℕ) → i < w → f (a + i) ≡ g (b + i)) → big w f a ≡ big w g b
+pub big-same : (w : ℕ) (f g : ℕ → ℕ) (a b : ℕ) → ((i : ℕ) → i < w → f (a + i) % 256 ≡ g (b + i) % 256) → big w f a ≡ big w g b
 big-same w f g a b same =
     big-reversed w f a ∙ little-same w _ _ 0 0 (λ i h. same (w - suc (0 + i)) (omega arith)) ∙ sym (big-reversed w g b)
 
@@ -91,4 +91,15 @@ big-digit w f at i h = rw big-reversed (rw zero-add at (little-digit w (λ j. f 
 
 -- the w lowest digits of a value, highest first, make the value modulo 256 ^ w
 pub big-of : (w v : ℕ) → big w (λ i. v / 256 ^ (w - suc i)) 0 ≡ v % 256 ^ w
-big-of w v = big-reversed w _ 0 ∙ little-same w _ _ 0 0 (λ i h. ap (λ j. v / 256 ^ j) (omega arith)) ∙ little-of w v
+big-of w v = big-reversed w _ 0 ∙ little-same w _ _ 0 0 (λ i h. ap (λ j. v / 256 ^ j % 256) (omega arith)) ∙ little-of w v
+
+-- the bytes of a number least first, reversed, make the same bytes' number highest first
+pub reversed-little : (w : ℕ) (f : ℕ → ℕ) (at : ℕ) → reversed w (little w f at) ≡ big w f at
+unfolding reversed
+reversed-little w f at = big-same w _ _ 0 at (λ i h. rw zero-add (little-digit w f at i h))
+
+-- reversed twice, a number of w bytes is itself
+pub reversed-back : (w v : ℕ) → reversed w (reversed w v) ≡ v % 256 ^ w
+unfolding reversed
+reversed-back w v =
+    big-same w _ _ 0 0 (λ i h. rw (zero-add i) (big-digit w (λ j. v / 256 ^ j) 0 i h ∙ rw zero-add)) ∙ big-of w v

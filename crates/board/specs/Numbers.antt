@@ -1,5 +1,5 @@
 -- Numbers of w bytes in both byte orders. A byte f i is read modulo 256, so that the laws need no bound on it.
-use Prim.Native.Nat.{ℕ, zero, suc, _+_, _*_, _%_, _^_}
+use Prim.Native.Nat.{ℕ, zero, suc, _+_, _*_, _/_, _%_, _^_}
 use mathlib.Core.Bool.{cond}
 use mathlib.Core.List.{List}
 use lib.Dec.{ltb}
@@ -25,6 +25,10 @@ little (suc w) f at = f at % 256 + 256 * little w f (at + 1)
 unfoldable pub big : ℕ → (ℕ → ℕ) → ℕ → ℕ
 big zero f at = 0
 big (suc w) f at = 256 ^ w * (f at % 256) + big w f (at + 1)
+
+-- a number with its w bytes in the other order: its least byte is the highest
+unfoldable pub reversed : ℕ → ℕ → ℕ
+reversed w v = big w (λ i. v / 256 ^ i) 0
 
 -- 2 to the power k, and 0 for k past 31
 abbrev pub power : ℕ → ℕ

@@ -2,7 +2,7 @@
 ghost use mathlib.Core.Path.{_≡_};
 ghost use Prim.Native.Nat.{_+_, _*_, _%_, _<_};
 ghost use lib.ListN.{getD};
-ghost use Rattle.board.specs.Numbers.{byteAt, bytes, little, big, power};
+ghost use Rattle.board.specs.Numbers.{byteAt, bytes, little, big, reversed, power};
 
 // How many bytes an access or a number has: 1, 2 or 4.
 pub enum Width {
@@ -61,23 +61,24 @@ pub fn little_at(s: &[u8], at: usize, width: Width) -> u32
     }
 }
 
+// A number with the bytes of a width in the other order.
+pub fn reversed(v: u32, width: Width) -> u32
+    ensures { λ r. ⌜ r ≡ reversed (bytes width) v ⌝ }
+{
+    match width {
+        Width::Byte => v % 256,
+        Width::Word => v % 256 * 256 + v / 256 % 256,
+        Width::Long => {
+            v % 256 * 16777216 + v / 256 % 256 * 65536 + v / 65536 % 256 * 256 + v / 16777216
+        }
+    }
+}
+
 // The number at a place, highest byte first.
 pub fn big_at(s: &[u8], at: usize, width: Width) -> u32
     ensures { λ r. ⌜ r ≡ big (bytes width) (byteAt (now (s .entry))) at ⌝ }
 {
-    let a = byte_after(s, at, 0);
-    match width {
-        Width::Byte => number(a, 0, 0, 0),
-        Width::Word => number(byte_after(s, at, 1), a, 0, 0),
-        Width::Long => {
-            number(
-                byte_after(s, at, 3),
-                byte_after(s, at, 2),
-                byte_after(s, at, 1),
-                a,
-            )
-        }
-    }
+    reversed(little_at(s, at, width), width)
 }
 
 // The number at a place of a lent array, 0 past the end.
