@@ -1,6 +1,6 @@
 -- The numbers handed back: document 01, "Numbers handed back".
 use Prim.Native.Nat.{ℕ}
-use lib.IntN.{ℤ, pos, negℤ}
+use lib.IntN.{pos, negℤ}
 use Rattle.board.specs.declared.status.Status.{Status}
 
 abbrev minus : ℕ → Status

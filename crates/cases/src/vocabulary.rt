@@ -10,6 +10,7 @@ use board::handle::is_handle;
 use board::number::Width;
 use board::number::big_at;
 use board::number::little_at;
+use board::number::reversed;
 use board::status::Status;
 
 pub(crate) fn numbers() {
@@ -85,4 +86,9 @@ pub(crate) fn byte_orders() {
     hexadecimal(big_at(&s, 0, Width::Word));
     hexadecimal(big_at(&s, 0, Width::Long));
     end(b"cells read high byte first");
+    begin(b"11223344h with the bytes of 1, 2, 4 reversed");
+    hexadecimal(reversed(0x11223344, Width::Byte));
+    hexadecimal(reversed(0x11223344, Width::Word));
+    hexadecimal(reversed(0x11223344, Width::Long));
+    end(b"reverses the bytes of words and longwords");
 }

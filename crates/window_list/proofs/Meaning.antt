@@ -1,18 +1,18 @@
 -- The window list means what specs/Meaning.antt says, and depends on nothing else.
-use Prim.Native.Nat.{ℕ, zero, suc, _+_, _*_, _/_, _%_, _^_, _≤_, _<_, max}
+use Prim.Native.Nat.{ℕ, _+_, _*_, _/_, _%_, _<_, max}
 use native.Mathlib.Nat.{le-max-left, le-max-right}
 use native.Mathlib.Omega.{arith}
 use lib.Pow.{pow-pos}
 use lib.Dec.{ltb, eqb}
 use borrow.Author.Tests.{lt-ltb, ltb-true, eq-eqb, eqb-true, not-true}
-use mathlib.Core.Bool.{Bool, true, false, not, _&&_, cond, true≢false, false≢true}
+use mathlib.Core.Bool.{Bool, true, false, cond, false≢true}
 use mathlib.Core.Logic.{_↔_, inl, inr, ⊎-elim}
 use mathlib.Core.Path.{_≡_, refl, ap, sym, _∙_}
 use mathlib.Core.List.{List, [], _∷_, map}
 use Rattle.board.specs.Handles.{functionCount}
-use Rattle.board.specs.Layout.{exponent, registerByte, command, baseRegister}
+use Rattle.board.specs.Layout.{exponent, registerByte, baseRegister}
 use Rattle.board.specs.Numbers.{little}
-use Rattle.window_list.specs.Windows.{Window, end, isOpen, windowOf, windowAt, gather, openWindows, sorted, another, shares, contends, any, withMark, marked, listOf, windowList}
+use Rattle.window_list.specs.Windows.{Window, end, windowAt, openWindows, sorted, another, contends, any, withMark, listOf}
 use Rattle.window_list.specs.Meaning.{In, Every, howMany, sameRegister, OpenAt, Contests, Contested, Means, ListMeans, Watched, ListDependsOn}
 use Rattle.window_list.proofs.Lists.{in-every, any-sorted, many-sorted, in-sorted, in-map, map-same, any-in, gather-same}
 use Rattle.window_list.proofs.Order.{Apart, differ, another-by, another-sym, ascending-sorted, ascending-map}

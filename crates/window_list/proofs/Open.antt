@@ -3,15 +3,15 @@ use Prim.Native.Nat.{ℕ, zero, suc, _+_, _-_, _*_, _/_, _%_, _^_, _≤_, _<_}
 use native.Mathlib.Nat.{mul-le-mul-right, suc-mul, pow-le-pow-right}
 use native.Mathlib.Omega.{arith}
 use lib.Pow.{pow-pos, pow-add, shr-lt, split}
-use lib.Dec.{leb, eqb}
-use borrow.Author.Tests.{leb-true, eqb-false, not-true}
-use mathlib.Core.Bool.{Bool, true, false, not, _&&_, cond, true≢false, false≢true}
+use lib.Dec.{leb}
+use borrow.Author.Tests.{leb-true}
+use mathlib.Core.Bool.{Bool, true, false, _&&_, cond, false≢true}
 use mathlib.Core.Logic.{_↔_, inl, inr, ⊎-elim}
 use mathlib.Core.Path.{_≡_, refl, ap, sym, _∙_}
 use mathlib.Core.List.{List, [], _∷_, _++_}
 use Rattle.board.specs.Layout.{command, baseRegister}
 use Rattle.board.specs.Numbers.{little}
-use Rattle.window_list.specs.Windows.{Window, end, spaceOf, startOf, commandBit, isOpen, windowOf, windowAt, gather, openWindows, another, withMark}
+use Rattle.window_list.specs.Windows.{Window, end, startOf, isOpen, windowOf, windowAt, gather, openWindows, another, withMark}
 use Rattle.window_list.specs.Meaning.{In, Every, OpenAt}
 use Rattle.window_list.proofs.Lists.{every-in, in-gather}
 use Rattle.window_list.proofs.Order.{Apart, another-by}

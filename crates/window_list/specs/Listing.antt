@@ -6,7 +6,6 @@ use mathlib.Core.Path.{_≡_}
 use lib.Dec.{eqb}
 use lib.IntN.{ℤ}
 use lib.ListN.{replicate}
-use Rattle.board.specs.declared.status.Status.{Status}
 use Rattle.board.specs.Statuses.{successful, deviceNotFound}
 use Rattle.window_list.specs.declared.listing.ListedWindow.{ListedWindow}
 use Rattle.window_list.specs.declared.listing.ListedWindow.the-variants.{Memory, Io}

@@ -1,5 +1,4 @@
 -- `in_space`: each arm makes the window that the definition picks.
-use borrow.Author.Needs.{needs}
 use Rattle.window_list.proofs.listing.in_space.Statement.{statement}
 use Rattle.window_list.proofs.listing.in_space.Tie as tie
 
