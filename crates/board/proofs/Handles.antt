@@ -1,22 +1,18 @@
 -- Laws of handles: the test of a handle, said as bounds.
-use mathlib.Core.Path.{_≡_, refl}
-use mathlib.Core.Bool.{Bool, true, false, _&&_}
+use mathlib.Core.Path.{_≡_}
+use mathlib.Core.Bool.{true}
 use mathlib.Core.List.{List}
 use Prim.Native.Nat.{ℕ, min, _<_, _≤_}
 use native.Mathlib.Omega.{arith}
 use borrow.Author.Tests.{le-leb, leb-true}
 use lib.ListN.{getD}
 use Rattle.board.specs.Handles.{isHandle}
-
--- of two tests that hold together, each holds
-both : (a b : Bool) → (a && b) ≡ true → (a ≡ true) × (b ≡ true)
-both true b t = (refl, t)
-both false b t = (t, cc)
+use Rattle.board.proofs.Tests.{both-true}
 
 -- a handle is at least 1, and at most the kept count and 16
 pub handle-place : (header : List ℕ) (h : ℕ) → isHandle header h ≡ true → (0 < h) × ((h ≤ getD header 0 0) × (h ≤ 16))
 handle-place header h t =
-    let tests = both _ _ t in
+    let tests = both-true _ _ t in
     let high : h ≤ min (getD header 0 0) 16 = leb-true _ _ (tests .1) in
     (leb-true _ _ (tests .0), (omega arith, omega arith))
 

@@ -2,3 +2,4 @@
 pub mod Addresses
 pub mod Handles
 pub mod Numbers
+pub mod Tests

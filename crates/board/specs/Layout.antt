@@ -30,6 +30,13 @@ offsetAt = 536
 abbrev pub dmaOffsetAt : ℕ
 dmaOffsetAt = 540
 
+-- bytes of a window entry, and registers of a function
+abbrev pub entrySize : ℕ
+entrySize = 4
+
+abbrev pub registersEach : ℕ
+registersEach = 256
+
 -- byte `at` of the record of the function at place i
 abbrev pub recordByte : List ℕ → ℕ → ℕ → ℕ
 recordByte records i at = getD records (recordSize * i + at) 0
@@ -39,7 +46,7 @@ maskByte records i register = recordByte records i (masksAt + register)
 
 -- a field of the entry of base register b: length exponent k, byte order, widths
 abbrev pub entryByte : List ℕ → ℕ → ℕ → ℕ → ℕ
-entryByte records i b field = recordByte records i (entriesAt + 4 * b + field)
+entryByte records i b field = recordByte records i (entriesAt + entrySize * b + field)
 
 abbrev pub exponent : List ℕ → ℕ → ℕ → ℕ
 exponent records i b = entryByte records i b 0
@@ -57,9 +64,9 @@ offset records i = big 4 (recordByte records i) offsetAt
 abbrev pub dmaOffset : List ℕ → ℕ → ℕ
 dmaOffset records i = big 4 (recordByte records i) dmaOffsetAt
 
--- register `at` of the function at place i, 256 a function
+-- register `at` of the function at place i
 abbrev pub registerByte : List ℕ → ℕ → ℕ → ℕ
-registerByte registers i at = getD registers (256 * i + at) 0
+registerByte registers i at = getD registers (registersEach * i + at) 0
 
 -- of a function's registers r: the command byte, and base register b, little-endian
 abbrev pub command : (ℕ → ℕ) → ℕ

@@ -78,17 +78,24 @@ fn show(list: &Windows) {
     }
 }
 
-// A row with the window list of a board, and the number past its end.
-pub(crate) fn case(name: &[u8], count: u32, windows: &[u64], sentence: &[u8]) {
+// A row with the window list of a board after one of its windows has moved, and the number past its end.
+pub(crate) fn case_moved(name: &[u8], count: u32, windows: &[u64], moved: u64, sentence: &[u8]) {
     let header = [count, 0, 0, 0];
     let mut records = [0u8; FUNCTIONS * RECORD];
     let mut registers = [0u8; FUNCTIONS * REGISTER_BYTES];
     let mut list = [0u64; WINDOWS];
     build(windows, &mut records, &mut registers);
     refresh(&header, &records, &registers, &mut list);
+    set(&mut records, &mut registers, moved);
+    refresh(&header, &records, &registers, &mut list);
     begin(name);
     show(&list);
     end(sentence);
+}
+
+// A row with the window list of a board; 0 moves no window.
+pub(crate) fn case(name: &[u8], count: u32, windows: &[u64], sentence: &[u8]) {
+    case_moved(name, count, windows, 0, sentence);
 }
 
 // All 96 windows of 64 KB each, the first base register of the first function at the highest start.

@@ -14,6 +14,7 @@ fn main() {
     windows::placed();
     windows::contested();
     windows::uncontested();
+    windows::ends();
     windows::altered();
     windows::full();
 }

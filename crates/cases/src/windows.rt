@@ -1,6 +1,7 @@
 // The window list of small boards: which windows are open, where they stand, which are contested.
 use crate::boards::case;
 use crate::boards::case_full;
+use crate::boards::case_moved;
 
 // The functions there are.
 pub(crate) fn there() {
@@ -88,24 +89,26 @@ pub(crate) fn placed() {
 
 // Which windows are contested.
 pub(crate) fn contested() {
-    case(
+    case_moved(
         b"P11, 80000000h to 10h of handle 2",
-        2,
-        &[
-            0x1_3_0_0a_80000000,
-            0x2_3_0_0a_80000000,
-            0x2_3_1_04_00000101,
-        ],
-        b"both memory windows contested",
-    );
-    case(
-        b"P11, 80000400h written back",
         2,
         &[
             0x1_3_0_0a_80000000,
             0x2_3_0_0a_80000400,
             0x2_3_1_04_00000101,
         ],
+        0x2_3_0_0a_80000000,
+        b"both memory windows contested",
+    );
+    case_moved(
+        b"P11, 80000400h written back",
+        2,
+        &[
+            0x1_3_0_0a_80000000,
+            0x2_3_0_0a_80000000,
+            0x2_3_1_04_00000101,
+        ],
+        0x2_3_0_0a_80000400,
         b"writing 80000400h clears both",
     );
     case(
@@ -121,7 +124,7 @@ pub(crate) fn contested() {
     );
 }
 
-// Which are not.
+// Which do not contest each other.
 pub(crate) fn uncontested() {
     case(
         b"memory and I/O at 8000h",
@@ -135,6 +138,10 @@ pub(crate) fn uncontested() {
         &[0x1_2_0_0c_00008000, 0x2_1_0_0c_00008000],
         b"another open window",
     );
+}
+
+// Ends of 2^32.
+pub(crate) fn ends() {
     case(
         b"FFFF0000h and FFFFFC00h to the end, 00000400h",
         1,

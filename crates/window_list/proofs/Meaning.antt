@@ -11,20 +11,21 @@ use mathlib.Core.Path.{_≡_, refl, ap, sym, _∙_}
 use mathlib.Core.List.{List, [], _∷_, map}
 use Rattle.board.specs.Handles.{functionCount}
 use Rattle.board.specs.Layout.{exponent, registerByte, baseRegister}
-use Rattle.board.specs.Numbers.{little}
+use Rattle.board.proofs.Numbers.{little-same}
+use Rattle.board.proofs.Tests.{both-true}
 use Rattle.window_list.specs.Windows.{Window, end, windowAt, openWindows, sorted, another, contends, any, withMark, listOf}
 use Rattle.window_list.specs.Meaning.{In, Every, howMany, sameRegister, OpenAt, Contests, Contested, Means, ListMeans, Watched, ListDependsOn}
 use Rattle.window_list.proofs.Lists.{in-every, any-sorted, many-sorted, in-sorted, in-map, map-same, any-in, gather-same}
 use Rattle.window_list.proofs.Order.{Apart, differ, another-by, another-sym, ascending-sorted, ascending-map}
-use Rattle.window_list.proofs.Open.{slot, and-parts, in-open, open-in, apart-slots}
+use Rattle.window_list.proofs.Open.{slot, in-open, open-in, apart-slots}
 
 -- two windows of some length share an address exactly if each starts before the other ends
 contests-is : (w v : Window) → 0 < w .length → 0 < v .length → contends w v ≡ true ↔ Contests w v
 contests-is w v lw lv = (
   λ e.
-      let a = and-parts (another v w) _ e in
-      let b = and-parts (eqb (v .space) (w .space)) _ (a .1) in
-      let c = and-parts (ltb (v .start) (end w)) _ (b .1) in
+      let a = both-true (another v w) _ e in
+      let b = both-true (eqb (v .space) (w .space)) _ (a .1) in
+      let c = both-true (ltb (v .start) (end w)) _ (b .1) in
       let f = ltb-true (v .start) (end w) (c .0) in
       let g = ltb-true (w .start) (end v) (c .1) in
       record {
@@ -44,6 +45,11 @@ contests-is w v lw lv = (
         lt-ltb (w .start) (end v) (omega (arith, c .from-w, c .to-v)),
       ),
 )
+
+-- marks play no part in it
+remarked : (m n m′ n′ : Bool) (w v : Window) → Contests (withMark m w) (withMark n v) → Contests (withMark m′ w) (withMark n′ v)
+remarked m n m′ n′ w v c =
+    record { other = c .other; space = c .space; address = c .address; from-v = c .from-v; to-v = c .to-v; from-w = c .from-w; to-w = c .to-w }
 
 none-of : (v : Window) (l : List Window) → Every (λ w. another w v ≡ true) l → howMany (sameRegister v) l ≡ 0
 none-of v [] a = refl
@@ -98,14 +104,14 @@ module _ (count : ℕ) (k r : ℕ → ℕ → ℕ) where
         let t = any-in (contends (withMark false w)) opens .0 e in
         let p = in-open k r count (t .0) (t .1) .0 in
         let c = contests-is (withMark false w) (t .0) (long-open w o) (long-open (t .0) p) .0 (t .2) in
-        (t .0, p, record { other = c .other; space = c .space; address = c .address; from-v = c .from-v; to-v = c .to-v; from-w = c .from-w; to-w = c .to-w }),
+        (t .0, p, remarked false (t .0 .contested) (w .contested) (t .0 .contested) w (t .0) c),
     λ t.
         let c = t .2 in
         any-in (contends (withMark false w)) opens .1 (
           withMark false (t .0),
           open-in k r count (t .0) (t .1),
           contests-is (withMark false w) (withMark false (t .0)) (long-open w o) (long-open (t .0) (t .1)) .1
-              (record { other = c .other; space = c .space; address = c .address; from-v = c .from-v; to-v = c .to-v; from-w = c .from-w; to-w = c .to-w }),
+              (remarked (w .contested) (t .0 .contested) false false w (t .0) c),
         ),
   )
 
@@ -161,10 +167,8 @@ pub list-means : ListMeans
 list-means header records registers = means (functionCount header) (exponent records) (registerByte registers)
 
 base-same : (f g : ℕ → ℕ) (b : ℕ) → b < 6 → ((at : ℕ) → Watched at → f at ≡ g at) → baseRegister f b ≡ baseRegister g b
-unfolding little
 base-same f g b h e =
-    let a : ℕ = 16 + 4 * b in
-    rw (e a (inr (omega arith)), e (a + 1) (inr (omega arith)), e (a + 1 + 1) (inr (omega arith)), e (a + 1 + 1 + 1) (inr (omega arith)))
+    little-same 4 f g (16 + 4 * b) (16 + 4 * b) (λ i l. ap (λ (x : ℕ). x % 256) (e (16 + 4 * b + i) (inr (omega arith))))
 
 pub list-same : (count : ℕ) (k k′ r r′ : ℕ → ℕ → ℕ) → ((i b : ℕ) → i < count → b < 6 → k i b ≡ k′ i b)
     → ((i at : ℕ) → i < count → Watched at → r i at ≡ r′ i at) → listOf count k r ≡ listOf count k′ r′

@@ -5,12 +5,13 @@ use native.Mathlib.Omega.{arith}
 use lib.Pow.{pow-pos, pow-add, shr-lt, split}
 use lib.Dec.{leb}
 use borrow.Author.Tests.{leb-true}
-use mathlib.Core.Bool.{Bool, true, false, _&&_, cond, false≢true}
+use mathlib.Core.Bool.{Bool, true, false, cond, false≢true}
 use mathlib.Core.Logic.{_↔_, inl, inr, ⊎-elim}
 use mathlib.Core.Path.{_≡_, refl, ap, sym, _∙_}
 use mathlib.Core.List.{List, [], _∷_, _++_}
 use Rattle.board.specs.Layout.{command, baseRegister}
-use Rattle.board.specs.Numbers.{little}
+use Rattle.board.proofs.Numbers.{little-below}
+use Rattle.board.proofs.Tests.{both-true}
 use Rattle.window_list.specs.Windows.{Window, end, startOf, isOpen, windowOf, windowAt, gather, openWindows, another, withMark}
 use Rattle.window_list.specs.Meaning.{In, Every, OpenAt}
 use Rattle.window_list.proofs.Lists.{every-in, in-gather}
@@ -26,11 +27,6 @@ pub record Fits (w : Window) : Type 0 where
   pub base : w .base < 8
   pub unmarked : w .contested ≡ false
 
-pub and-parts : (p q : Bool) → (p && q) ≡ true → (p ≡ true) × (q ≡ true)
-and-parts true q e = (refl, e)
-and-parts false true e = (e, refl)
-and-parts false false e = (e, e)
-
 -- a window ends within its space, 2^32 included
 ends-within : (k x : ℕ) → k ≤ 16 → x < 4294967296 → startOf k x + 2 ^ k ≤ 4294967296
 ends-within k x small fits =
@@ -41,14 +37,10 @@ ends-within k x small fits =
     let top : (q * 2 ^ k) + 2 ^ k ≤ 4294967296 = rw (← suc-mul, ← all) (mul-le-mul-right (2 ^ k) lt) in
     omega (arith, split x k, top)
 
-long-below : (r : ℕ → ℕ) (at : ℕ) → little 4 r at < 4294967296
-unfolding little
-long-below r at = omega arith
-
 pub window-fits : (k x command h b : ℕ) → x < 4294967296 → h < 32 → b < 8 → isOpen k x command ≡ true → Fits (windowOf k x h b)
 window-fits k x command h b fits hh hb o =
-    let a = and-parts (leb 2 k) _ o in
-    let small : k ≤ 16 = leb-true k 16 (and-parts (leb k 16) _ (a .1) .0) in
+    let a = both-true (leb 2 k) _ o in
+    let small : k ≤ 16 = leb-true k 16 (both-true (leb k 16) _ (a .1) .0) in
     record {
       space = omega arith;
       length-pos = pow-pos k;
@@ -58,6 +50,14 @@ window-fits k x command h b fits hh hb o =
       base = hb;
       unmarked = refl;
     }
+
+apart-append : (l m : List Window) → Apart l → Apart m → ((v w : Window) → In v m → In w l → another v w ≡ true) → Apart (l ++ m)
+apart-append [] m a b c = b
+apart-append (w ∷ l) m a b c = (every-append l (a .0), apart-append l m (a .1) b (λ v x i j. c v x i (inr j)))
+  where
+    every-append : (l : List Window) → Every (λ v. another v w ≡ true) l → Every (λ v. another v w ≡ true) (l ++ m)
+    every-append [] e = every-in (λ v. another v w ≡ true) m (λ v i. c v w i (inl refl))
+    every-append (v ∷ l) e = (e .0, every-append l (e .1))
 
 module _ (k r : ℕ → ℕ → ℕ) where
   in-at : (i b : ℕ) (w : Window)
@@ -79,7 +79,7 @@ module _ (k r : ℕ → ℕ → ℕ) where
       let t = in-at (s / 6) (s % 6) w .0 i in
       rw (t .1)
       (window-fits (k (s / 6) (s % 6)) (baseRegister (r (s / 6)) (s % 6)) (command (r (s / 6))) (s / 6 + 1) (s % 6)
-      (long-below (r (s / 6)) (16 + 4 * (s % 6))) (omega arith) (omega arith) (t .0))
+      (little-below 4 (r (s / 6)) (16 + 4 * (s % 6))) (omega arith) (omega arith) (t .0))
 
   pub slot-code : (s : ℕ) (w : Window) → In w (slot s) → (w .handle ≡ s / 6 + 1) × (w .base ≡ s % 6)
   slot-code s w i =
@@ -123,14 +123,6 @@ module _ (k r : ℕ → ℕ → ℕ) where
         omega (arith, o .there, o .six),
         rw (ei, eb) (in-at (o .function) (o .register) (withMark false w) .1 (o .opened, o .same)),
       )
-
-  apart-append : (l m : List Window) → Apart l → Apart m → ((v w : Window) → In v m → In w l → another v w ≡ true) → Apart (l ++ m)
-  apart-append [] m a b c = b
-  apart-append (w ∷ l) m a b c = (every-append l (a .0), apart-append l m (a .1) b (λ v x i j. c v x i (inr j)))
-    where
-      every-append : (l : List Window) → Every (λ v. another v w ≡ true) l → Every (λ v. another v w ≡ true) (l ++ m)
-      every-append [] e = every-in (λ v. another v w ≡ true) m (λ v i. c v w i (inl refl))
-      every-append (v ∷ l) e = (e .0, every-append l (e .1))
 
   apart-slot : (s : ℕ) → Apart (slot s)
   unfolding windowAt
