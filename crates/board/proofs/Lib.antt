@@ -2,4 +2,5 @@
 pub mod Addresses
 pub mod Handles
 pub mod Numbers
+pub mod Tables
 pub mod Tests

@@ -1,12 +1,16 @@
 -- Laws of the numbers of w bytes, for every w: their bound, what they depend on, their digits, and what the digits of a value make.
 use mathlib.Core.Path.{_≡_, refl, sym, ap, _∙_}
-use Prim.Native.Nat.{ℕ, zero, suc, _+_, _-_, _*_, _/_, _%_, _<_, _^_}
+use mathlib.Core.List.{List, _++_}
+use Prim.Native.Nat.{ℕ, zero, suc, _+_, _-_, _*_, _/_, _%_, _<_, _≤_, _^_}
 use native.Mathlib.Omega.{arith}
 use native.Mathlib.Numerals.{add-one}
 use native.Mathlib.Nat.{add-zero, zero-add, pow-suc, pow-succ', div-one, div-div-eq-div-mul, one-le-pow}
 use lib.Dec.{lit<}
 use lib.Arith.{mod-mul}
-use Rattle.board.specs.Numbers.{little, big, reversed}
+use lib.ListN.{length, getD, take, drop, length-drop, List·getD-append}
+use lib.Seq.{length-take-le, getD-append-add, getD-take, getD-drop, ext-getD}
+use Rattle.board.specs.Numbers.{byteAt, little, big, bigBytes, reversed}
+use Rattle.board.proofs.Tables.{table-length, table-get}
 
 -- no bytes make 0
 none : (f : ℕ → ℕ) (at : ℕ) → little 0 f at ≡ 0
@@ -103,3 +107,26 @@ pub reversed-back : (w v : ℕ) → reversed w (reversed w v) ≡ v % 256 ^ w
 unfolding reversed
 reversed-back w v =
     big-same w _ _ 0 0 (λ i h. rw (zero-add i) (big-digit w (λ j. v / 256 ^ j) 0 i h ∙ rw zero-add)) ∙ big-of w v
+
+-- the w bytes of a value, wherever they stand in a list, make the value modulo 256 ^ w
+pub big-bytes : (w v : ℕ) (before after : List ℕ) → big w (byteAt (before ++ (bigBytes w v ++ after))) (length before) ≡ v % 256 ^ w
+big-bytes w v before after =
+    big-same w _ (λ i. v / 256 ^ (w - suc i)) (length before) 0
+    (λ i h. let k : i < length (bigBytes w v) = rw table-length h in
+    rw (getD-append-add before (bigBytes w v ++ after) i 0, List·getD-append (bigBytes w v) after 0 i k, table-get 0 w (λ j. v / 256 ^ (w - suc j) % 256) i h) (omega arith))
+    ∙ big-of w v
+
+-- the w bytes of the number that a list holds at a place are the list's bytes there
+pub bytes-big : (w : ℕ) (l : List ℕ) (at : ℕ) → ((i : ℕ) → byteAt l i < 256) → at + w ≤ length l
+    → bigBytes w (big w (byteAt l) at) ≡ take w (drop at l)
+bytes-big w l at small h =
+    let size : length (take w (drop at l)) ≡ w = length-take-le w (drop at l) (rw length-drop (omega arith)) in
+    ext-getD 0 (bigBytes w (big w (byteAt l) at)) (take w (drop at l)) (table-length 0 w _ ∙ sym size)
+    (λ i k. let less : i < w = rw table-length at k in byte i less)
+  where
+    byte : (i : ℕ) → i < w → getD (bigBytes w (big w (byteAt l) at)) i 0 ≡ getD (take w (drop at l)) i 0
+    byte i h =
+        let e : at + (w - suc (w - suc (0 + i))) ≡ at + i = omega arith in
+        table-get 0 w (λ j. big w (byteAt l) at / 256 ^ (w - suc j) % 256) i h
+        ∙ big-digit w (byteAt l) at (w - suc (0 + i)) (omega arith)
+        ∙ rw (e, getD-take w (drop at l) i 0 h, getD-drop at l i 0) (omega (arith, small (at + i)))

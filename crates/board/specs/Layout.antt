@@ -30,12 +30,18 @@ offsetAt = 536
 abbrev pub dmaOffsetAt : ℕ
 dmaOffsetAt = 540
 
--- bytes of a window entry, and registers of a function
+-- bytes of a window entry; registers of a function; numbers of a hook and of a used mark
 abbrev pub entrySize : ℕ
 entrySize = 4
 
 abbrev pub registersEach : ℕ
 registersEach = 256
+
+abbrev pub hookSize : ℕ
+hookSize = 3
+
+abbrev pub markSize : ℕ
+markSize = 2
 
 -- byte `at` of the record of the function at place i
 abbrev pub recordByte : List ℕ → ℕ → ℕ → ℕ

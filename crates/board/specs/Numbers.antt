@@ -1,9 +1,10 @@
 -- Numbers of w bytes in both byte orders. A byte f i is read modulo 256, so that the laws need no bound on it.
-use Prim.Native.Nat.{ℕ, zero, suc, _+_, _*_, _/_, _%_, _^_}
+use Prim.Native.Nat.{ℕ, zero, suc, _+_, _*_, _-_, _/_, _%_, _^_}
 use mathlib.Core.Bool.{cond}
 use mathlib.Core.List.{List}
 use lib.Dec.{ltb}
 use lib.ListN.{getD}
+use Rattle.board.specs.Tables.{table}
 use Rattle.board.specs.declared.number.Width.{Width}
 use Rattle.board.specs.declared.number.Width.the-variants.{Byte, Word, Long}
 
@@ -25,6 +26,10 @@ little (suc w) f at = f at % 256 + 256 * little w f (at + 1)
 unfoldable pub big : ℕ → (ℕ → ℕ) → ℕ → ℕ
 big zero f at = 0
 big (suc w) f at = 256 ^ w * (f at % 256) + big w f (at + 1)
+
+-- the w bytes of a number, highest first
+abbrev pub bigBytes : ℕ → ℕ → List ℕ
+bigBytes w v = table w (λ i. v / 256 ^ (w - suc i) % 256)
 
 -- a number with its w bytes in the other order: its least byte is the highest
 unfoldable pub reversed : ℕ → ℕ → ℕ

@@ -30,13 +30,13 @@ pub counted-end : (l : List ℕ) (j : ℕ) → length l ≤ j → length (unpack
 unfolding unpacked
 counted-end l j h = rw (drop-of-length-le l h)
 
-number-is : (l : List Window) (n : ℕ) → numberOf (listing l n) ≡ listedNumber l n
+pub number-is : (l : List Window) (n : ℕ) → numberOf (listing l n) ≡ listedNumber l n
 unfolding listing listedNumber
 number-is [] n = refl
 number-is (w ∷ l) zero = refl
 number-is (w ∷ l) (suc n) = number-is l n
 
-values-are : (l : List Window) (n : ℕ) → valuesOf (listing l n) ≡ listedValues l n
+pub values-are : (l : List Window) (n : ℕ) → valuesOf (listing l n) ≡ listedValues l n
 unfolding listing listedValues
 values-are [] n = refl
 values-are (w ∷ l) zero = by (eqb (w .space) 1)

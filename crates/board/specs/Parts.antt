@@ -1,0 +1,26 @@
+-- The lent parts of a board together, as lists: what a call that may touch several of them is said to leave.
+use Prim.Native.Nat.{ℕ}
+use mathlib.Core.List.{List}
+
+pub record Parts : Type 0 where
+  pub header : List ℕ
+  pub records : List ℕ
+  pub registers : List ℕ
+  pub windows : List ℕ
+  pub cellOffsets : List ℕ
+  pub hooks : List ℕ
+  pub used : List ℕ
+  pub cells : List ℕ
+
+abbrev pub parts : List ℕ → List ℕ → List ℕ → List ℕ → List ℕ → List ℕ → List ℕ → List ℕ → Parts
+parts header records registers windows cellOffsets hooks used cells =
+    record {
+      header = header;
+      records = records;
+      registers = registers;
+      windows = windows;
+      cellOffsets = cellOffsets;
+      hooks = hooks;
+      used = used;
+      cells = cells;
+    }

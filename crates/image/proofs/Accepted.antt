@@ -1,0 +1,116 @@
+-- What is known of an accepted image, and that nothing else is asked of it.
+use Prim.Native.Nat.{ℕ, zero, suc, _<_, _≤_}
+use native.Mathlib.Omega.{arith}
+use mathlib.Core.Bool.{Bool, true, false, not, cond, _||_}
+use mathlib.Core.Path.{_≡_, refl, sym, _∙_}
+use mathlib.Core.List.{List}
+use lib.Dec.{ltb, eqb}
+use lib.ListN.{length}
+use borrow.Author.Tests.{eq-eqb, ne-eqb, le-ltb, ltb-false, eqb-true, eqb-false, not-false}
+use Rattle.board.specs.Layout.{functionsMax}
+use Rattle.board.proofs.Tests.{either-false}
+use Rattle.image.specs.Image.{trailerSize, imageSize}
+use Rattle.image.specs.Refusals.{Facts, imageMax, cellsMax, accepted, refused, badRecord, formRefusal, recordsVerdict, cellsVerdict, firstRefusal}
+use Rattle.image.specs.Check.{factsOf, checked}
+use Rattle.image.specs.declared.check.Verdict.{Verdict}
+
+-- the facts of an image that no refusal applies to
+pub record Fine (f : Facts) (room : ℕ) : Type 0 where
+  pub long : trailerSize ≤ f .length
+  pub edition : f .edition ≡ 1
+  pub some : 0 < f .count
+  pub few : f .count ≤ functionsMax
+  pub distance : f .distance ≡ imageSize (f .count)
+  pub whole : imageSize (f .count) ≤ f .length
+  pub sum : f .sum ≡ f .said
+  pub rules : f .count ≤ f .bad
+  pub total : f .total ≤ cellsMax
+  pub fits : f .total ≤ room
+
+passed : (t : Bool) (n : ℕ) (v w : Verdict) → v .number ≡ n → (n ≡ 0 → ⊥) → cond t v w .number ≡ 0 → (t ≡ false) × (w .number ≡ 0)
+passed true n v w h z e = absurd (z (sym h ∙ e))
+passed false n v w h z e = (refl, e)
+
+formed : (t : Bool) (n m : ℕ) → (n ≡ 0 → ⊥) → cond t n m ≡ 0 → (t ≡ false) × (m ≡ 0)
+formed true n m z e = absurd (z e)
+formed false n m z e = (refl, e)
+
+-- a test that is not met: the numbers are equal
+equal : (a b : ℕ) → not (eqb a b) ≡ false → a ≡ b
+equal a b e = eqb-true a b (not-false (eqb a b) e)
+
+form-first : (f : Facts) (room : ℕ) → firstRefusal f room .number ≡ 0
+    → (formRefusal (f .length) (f .edition) (f .count) (f .distance) ≡ 0)
+    × (recordsVerdict (f .sum) (f .said) (f .bad) (f .count) (f .total) room .number ≡ 0)
+unfolding firstRefusal
+form-first f room =
+    by (formRefusal (f .length) (f .edition) (f .count) (f .distance)) (recordsVerdict (f .sum) (f .said) (f .bad) (f .count) (f .total) room)
+  where
+    by : (n : ℕ) (w : Verdict) → cond (eqb n 0) w (refused n) .number ≡ 0 → (n ≡ 0) × (w .number ≡ 0)
+    by zero w e = (refl, e)
+    by (suc n) w e = let z : suc n ≡ 0 = rw (ne-eqb (suc n) 0 (λ o. omega arith)) at e in absurd (omega arith)
+
+pub fine : (f : Facts) (room : ℕ) → firstRefusal f room .number ≡ 0 → Fine f room
+fine f room e =
+    let o = form-first f room e in
+    let a = formed (ltb (f .length) trailerSize) 1 _ (λ z. omega arith) (o .0) in
+    let b = formed (not (eqb (f .edition) 1)) 2 _ (λ z. omega arith) (a .1) in
+    let c = formed (eqb (f .count) 0 || ltb functionsMax (f .count)) 3 _ (λ z. omega arith) (b .1) in
+    let d = formed (not (eqb (f .distance) (imageSize (f .count))) || ltb (f .length) (imageSize (f .count))) 4 0 (λ z. omega arith) (c .1) in
+    let g = passed (not (eqb (f .sum) (f .said))) 5 (refused 5) _ refl (λ z. omega arith) (o .1) in
+    let h = passed (ltb (f .bad) (f .count)) 6 (badRecord (f .bad)) _ refl (λ z. omega arith) (g .1) in
+    let i = passed (ltb cellsMax (f .total)) 7 (refused 7) _ refl (λ z. omega arith) (h .1) in
+    let j = passed (ltb room (f .total)) 8 (refused 8) accepted refl (λ z. omega arith) (i .1) in
+    let p = either-false _ _ (c .0) in
+    let q = either-false _ _ (d .0) in
+    let n = eqb-false (f .count) 0 (p .0) in
+    record {
+      long = ltb-false (f .length) trailerSize (a .0);
+      edition = equal (f .edition) 1 (b .0);
+      some = omega arith;
+      few = ltb-false functionsMax (f .count) (p .1);
+      distance = equal (f .distance) (imageSize (f .count)) (q .0);
+      whole = ltb-false (f .length) (imageSize (f .count)) (q .1);
+      sum = equal (f .sum) (f .said) (g .0);
+      rules = ltb-false (f .bad) (f .count) (h .0);
+      total = ltb-false cellsMax (f .total) (i .0);
+      fits = ltb-false room (f .total) (j .0);
+    }
+
+-- of a fine image only the cells are left to ask, whatever number of them is lent
+pub cells-left : (f : Facts) (r : ℕ) → Fine f r → (room : ℕ) → firstRefusal f room ≡ cellsVerdict (f .total) room
+unfolding firstRefusal
+cells-left f r k room =
+    rw (
+      le-ltb (f .length) trailerSize (k .long),
+      eq-eqb (f .edition) 1 (k .edition),
+      ne-eqb (f .count) 0 (omega (arith, k .some)),
+      le-ltb functionsMax (f .count) (k .few),
+      eq-eqb (f .distance) (imageSize (f .count)) (k .distance),
+      le-ltb (f .length) (imageSize (f .count)) (k .whole),
+      eq-eqb (f .sum) (f .said) (k .sum),
+      le-ltb (f .bad) (f .count) (k .rules),
+    )
+
+pub passes : (f : Facts) (room : ℕ) → Fine f room → firstRefusal f room ≡ accepted
+passes f room k = cells-left f room k room ∙ rw (le-ltb cellsMax (f .total) (k .total), le-ltb room (f .total) (k .fits))
+
+-- the same of an image's bytes
+pub record Accepted (image : List ℕ) (room : ℕ) : Type 0 where
+  pub short : length image ≤ imageMax
+  pub fine : Fine (factsOf image) room
+
+pub accepted-image : (image : List ℕ) (room : ℕ) → checked image room .number ≡ 0 → Accepted image room
+unfolding checked
+accepted-image image room e =
+    let a = passed (ltb imageMax (length image)) 1 (refused 1) _ refl (λ z. omega arith) e in
+    record { short = ltb-false imageMax (length image) (a .0); fine = fine (factsOf image) room (a .1) }
+
+pub accepted-passes : (image : List ℕ) (room : ℕ) → Accepted image room → checked image room ≡ accepted
+unfolding checked
+accepted-passes image room k = rw (le-ltb imageMax (length image) (k .short)) (passes (factsOf image) room (k .fine))
+
+-- with any other number of cells lent
+pub accepted-elsewhere : (image : List ℕ) (r : ℕ) → Accepted image r → (room : ℕ) → checked image room ≡ cellsVerdict (factsOf image .total) room
+unfolding checked
+accepted-elsewhere image r k room = rw (le-ltb imageMax (length image) (k .short)) (cells-left (factsOf image) r (k .fine) room)

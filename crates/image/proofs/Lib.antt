@@ -1,0 +1,5 @@
+-- The laws that proofs here and above cite.
+pub mod Lists
+pub mod Ranges
+pub mod Accepted
+pub mod Trip

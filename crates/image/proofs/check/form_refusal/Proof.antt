@@ -1,0 +1,87 @@
+-- `form_refusal`: the tests are the definition's, in its order; passed, they tell that there are at most 16 records and that they fit.
+use native.Mathlib.Omega.{arith}
+use Prim.Native.Nat.{_+_, _*_}
+use borrow.Author.Tests.{ne-eqb, eq-eqb, lt-ltb, le-ltb}
+use borrow.Author.Needs.{needs}
+use Rattle.image.proofs.check.form_refusal.Statement.{statement}
+use Rattle.image.proofs.check.form_refusal.Tie as tie
+
+returns : tie.Need-returns
+returns c =
+    let a = c .before .args in
+    (simp (le-ltb (a .long) 12 (omega arith), ne-eqb (a .edition) 1 (λ z. omega (arith, c .if1 .taken))), omega arith)
+
+returns-2 : tie.Need-returns-2
+returns-2 c =
+    let a = c .before .before .args in
+    (simp (le-ltb (a .long) 12 (omega arith), eq-eqb (a .edition) 1 (omega arith), eq-eqb (a .count) 0 (omega arith)), omega arith)
+
+cast-if3 : tie.Need-cast-if3
+cast-if3 c = search needs
+
+returns-3 : tie.Need-returns-3
+returns-3 c =
+    let a = c .before .before .before .args in (
+      simp (
+        le-ltb (a .long) 12 (omega arith),
+        eq-eqb (a .edition) 1 (omega arith),
+        ne-eqb (a .count) 0 (λ z. omega (arith, c .before .if2 .left)),
+        lt-ltb 16 (a .count) (omega arith),
+      ),
+      omega arith,
+    )
+
+mul-size : tie.Need-mul-size
+mul-size c = search needs
+
+add-size : tie.Need-add-size
+add-size c = search needs
+
+returns-4 : tie.Need-returns-4
+returns-4 c =
+    let d = c .before .before in
+    let a = d .before .before .args in (
+      simp (
+        le-ltb (a .long) 12 (omega arith),
+        eq-eqb (a .edition) 1 (omega arith),
+        ne-eqb (a .count) 0 (λ z. omega (arith, d .if2 .left)),
+        le-ltb 16 (a .count) (omega arith),
+        ne-eqb (a .distance) (544 * a .count + 12) (λ z. omega (arith, c .if4 .taken)),
+      ),
+      omega arith,
+    )
+
+returns-5 : tie.Need-returns-5
+returns-5 c =
+    let d = c .before .before .before in
+    let a = d .before .before .args in (
+      simp (
+        le-ltb (a .long) 12 (omega arith),
+        eq-eqb (a .edition) 1 (omega arith),
+        ne-eqb (a .count) 0 (λ z. omega (arith, d .if2 .left)),
+        le-ltb 16 (a .count) (omega arith),
+        eq-eqb (a .distance) (544 * a .count + 12) (omega arith),
+        lt-ltb (a .long) (544 * a .count + 12) (omega arith),
+      ),
+      omega arith,
+    )
+
+returns-6 : tie.Need-returns-6
+returns-6 c =
+    let d = c .before .before .before in
+    let a = d .before .before .args in (
+      simp (
+        le-ltb (a .long) 12 (omega arith),
+        eq-eqb (a .edition) 1 (omega arith),
+        ne-eqb (a .count) 0 (λ z. omega (arith, d .if2 .left)),
+        le-ltb 16 (a .count) (omega arith),
+        eq-eqb (a .distance) (544 * a .count + 12) (omega arith),
+        le-ltb (a .long) (544 * a .count + 12) (omega arith),
+      ),
+      λ z. (omega arith, omega arith),
+    )
+
+pub form-refusal-spec : {M : Type 1} → statement M
+form-refusal-spec =
+    tie.close
+    (tie.spec returns returns-2 cast-if3 returns-3 mul-size add-size returns-4 returns-5 returns-6)

@@ -1,0 +1,33 @@
+-- The cells of the windows: document 01, "The modelled board". k i b is the length exponent of base register b of the function at place i.
+use Prim.Native.Nat.{ℕ, zero, suc, _+_, _/_, _%_, _^_}
+use mathlib.Core.Bool.{_&&_, cond}
+use mathlib.Core.List.{List, _++_}
+use lib.Dec.{leb}
+use lib.ListN.{drop, replicate}
+use Rattle.board.specs.Tables.{table}
+use Rattle.board.specs.Layout.{bases, windowsMax}
+
+-- the cells of a window of length exponent k: an exponent outside 2..16 is no window
+abbrev pub cellCount : ℕ → ℕ
+cellCount k = cond (leb 2 k && leb k 16) (2 ^ k) 0
+
+-- the cells of slot s, which is base register s % 6 of function s / 6: function order, then base register order
+abbrev pub slotCells : (ℕ → ℕ → ℕ) → ℕ → ℕ
+slotCells k s = cellCount (k (s / bases) (s % bases))
+
+-- where the cells of slot s begin: no gaps
+unfoldable pub cellsBefore : (ℕ → ℕ → ℕ) → ℕ → ℕ
+cellsBefore k zero = 0
+cellsBefore k (suc s) = cellsBefore k s + slotCells k s
+
+-- all lengths together
+abbrev pub total : (ℕ → ℕ → ℕ) → ℕ
+total k = cellsBefore k windowsMax
+
+-- the kept offsets: of every slot, then the total
+abbrev pub offsetsOf : (ℕ → ℕ → ℕ) → List ℕ
+offsetsOf k = table (windowsMax + 1) (cellsBefore k)
+
+-- the first n cells zero, the rest as they were
+abbrev pub zeroed : ℕ → List ℕ → List ℕ
+zeroed n cells = replicate n 0 ++ drop n cells

@@ -1,0 +1,31 @@
+-- The image check: document 01, "Load refusals", of an image's bytes.
+use Prim.Native.Nat.{ℕ}
+use mathlib.Core.Bool.{cond}
+use mathlib.Core.List.{List}
+use lib.Dec.{ltb}
+use lib.ListN.{length}
+use Rattle.board.specs.Layout.{exponent}
+use Rattle.image.specs.Cells.{total}
+use Rattle.image.specs.Image.{distanceOf, countOf, editionOf, sumOf, recordsOf, recordAt, sum}
+use Rattle.image.specs.Refusals.{Facts, imageMax, refused, firstBad, firstRefusal}
+use Rattle.image.specs.declared.check.Verdict.{Verdict}
+
+abbrev pub factsOf : List ℕ → Facts
+factsOf image =
+    record {
+      length = length image;
+      edition = editionOf image;
+      count = countOf image;
+      distance = distanceOf image;
+      said = sumOf image;
+      sum = sum (recordsOf image);
+      bad = firstBad (recordAt (recordsOf image)) 0 (countOf image);
+      total = total (exponent (recordsOf image));
+    }
+
+-- the refusals but for the upper length
+abbrev pub judged : List ℕ → ℕ → Verdict
+judged image room = firstRefusal (factsOf image) room
+
+unfoldable pub checked : List ℕ → ℕ → Verdict
+checked image room = cond (ltb imageMax (length image)) (refused 1) (judged image room)

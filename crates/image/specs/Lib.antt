@@ -1,0 +1,8 @@
+-- The definitions that contracts cite, and the statements about them.
+pub mod Cells
+pub mod Image
+pub mod Refusals
+pub mod Check
+pub mod Load
+pub mod Write
+pub mod Meaning

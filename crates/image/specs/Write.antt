@@ -1,0 +1,23 @@
+-- The writer: document 01, "Board image" and "Load refusals", last sentence.
+use Prim.Native.Nat.{ℕ}
+use mathlib.Core.Bool.{cond}
+use mathlib.Core.List.{List, _++_}
+use lib.Dec.{ltb, eqb}
+use lib.ListN.{length, drop}
+use Rattle.board.specs.Handles.{functionCount}
+use Rattle.image.specs.Image.{imageSize, imageOf}
+
+-- the number of the refusal, 0 for none, and what the lent output holds
+pub record Written : Type 0 where
+  pub number : ℕ
+  pub out : List ℕ
+
+abbrev pub written : ℕ → List ℕ → Written
+written number out = record { number = number; out = out }
+
+-- 1 is tested before 3; output past the image stays; the loaded values are written, without notes
+unfoldable pub write : List ℕ → List ℕ → List ℕ → Written
+write header records out =
+    cond (ltb (length out) (imageSize (functionCount header))) (written 1 out)
+    (cond (eqb (functionCount header) 0) (written 3 out)
+    (written 0 (imageOf (functionCount header) records ++ drop (imageSize (functionCount header)) out)))

@@ -1,0 +1,206 @@
+// The check of a board image, without a board.
+use board::layout::BASES;
+use board::layout::ENTRIES;
+use board::layout::ENTRY;
+use board::layout::FUNCTIONS;
+use board::layout::RECORD;
+use board::layout::WINDOWS;
+use board::number::Width;
+use board::number::big_at;
+use board::number::byte_at;
+use board::number::power;
+use record::rules::record_ok;
+ghost use mathlib.Core.Path.{_≡_};
+ghost use Prim.Native.Nat.{_*_, _<_, _≤_};
+ghost use lib.ListN.{length};
+ghost use Rattle.board.specs.Layout.{functionsMax, recordSize, windowsMax, exponent};
+ghost use Rattle.image.specs.Cells.{cellCount, slotCells, total};
+ghost use Rattle.image.specs.Image.{imageSize, trailerSize, recordAt, sum};
+ghost use Rattle.image.specs.Refusals.{firstBad, formRefusal, cellsVerdict, recordsVerdict};
+ghost use Rattle.image.specs.Check.{judged, checked};
+
+// Bytes of the trailer, and of an image and of all cells at most.
+pub const TRAILER: usize = 12;
+
+pub const IMAGE: usize = 65536;
+
+pub const CELLS: u32 = 65536;
+
+// The number of the first refusal that applies, 0 for none; with 6 the place of the first bad record, else 0.
+pub struct Verdict {
+    pub number: u32,
+    pub place: u32,
+}
+
+// A verdict that names no record.
+fn plain(number: u32) -> Verdict
+    ensures { λ r. ⌜ r ≡ record { number = number; place = 0 } ⌝ }
+{
+    Verdict {
+        number: number,
+        place: 0,
+    }
+}
+
+// A byte as a number.
+fn wide(b: u8) -> u32
+    ensures { λ r. ⌜ (r ≡ b) × (r < 256) ⌝ }
+{
+    b as u32
+}
+
+// The sum of all bytes.
+pub(crate) fn sum_of(s: &[u8]) -> u32
+    requires { ⌜ length (now s) ≤ functionsMax * recordSize ⌝ }
+    ensures { λ r. ⌜ r ≡ sum (now (s .entry)) ⌝ }
+{
+    let mut t: u32 = 0;
+    let mut i = s.len();
+    while 0 < i {
+        i -= 1;
+        t = wide(s[i]) + t;
+    }
+    t
+}
+
+// The first of count records that breaks a rule, count where none does.
+fn first_bad(records: &[u8], count: usize) -> usize
+    requires { ⌜ (count ≤ functionsMax) × (length (now records) ≡ recordSize * count) ⌝ }
+    ensures { λ r. ⌜ r ≡ firstBad (recordAt (now (records .entry))) 0 count ⌝ }
+{
+    let mut i = 0;
+    while i < count {
+        let from = RECORD * i;
+        let to = from + RECORD;
+        if !record_ok(&records[from..to]) {
+            return i;
+        }
+        i += 1;
+    }
+    i
+}
+
+// The cells of a window of length exponent k.
+fn cell_count(k: u8) -> u32
+    ensures { λ r. ⌜ r ≡ cellCount k ⌝ }
+    ensures { λ r. ⌜ r ≤ 65536 ⌝ }
+{
+    if k < 2 {
+        return 0;
+    }
+    if 16 < k {
+        return 0;
+    }
+    power(k as u32) as u32
+}
+
+// The cells of slot s: base register s % 6 of function s / 6.
+pub(crate) fn slot_cells(records: &[u8], s: usize) -> u32
+    requires { ⌜ s < windowsMax ⌝ }
+    ensures { λ r. ⌜ r ≡ slotCells (exponent (now (records .entry))) s ⌝ }
+    ensures { λ r. ⌜ r ≤ 65536 ⌝ }
+{
+    let at = RECORD * (s / BASES) + (ENTRIES as usize + ENTRY as usize * (s % BASES));
+    cell_count(byte_at(records, at))
+}
+
+// The cells of all windows.
+fn total_of(records: &[u8]) -> u32
+    ensures { λ r. ⌜ r ≡ total (exponent (now (records .entry))) ⌝ }
+{
+    let mut t = 0;
+    let mut s = 0;
+    while s < WINDOWS {
+        t += slot_cells(records, s);
+        s += 1;
+    }
+    t
+}
+
+// Refusals 2 to 4 of an image that has a trailer; 0 for none.
+fn form_refusal(long: usize, edition: u32, count: u32, distance: u32) -> u32
+    requires { ⌜ trailerSize ≤ long ⌝ }
+    ensures { λ r. ⌜ r ≡ formRefusal long edition count distance ⌝ }
+    ensures { λ r. ⌜ (r ≡ 0 → (count ≤ functionsMax) × (imageSize count ≤ long)) ⌝ }
+{
+    if edition != 1 {
+        return 2;
+    }
+    if count == 0 {
+        return 3;
+    }
+    if (FUNCTIONS as u32) < count {
+        return 3;
+    }
+    let size = RECORD * count as usize + TRAILER;
+    if (distance as usize) != size {
+        return 4;
+    }
+    if long < size {
+        return 4;
+    }
+    0
+}
+
+// Refusals 7 and 8.
+fn cells_verdict(total: u32, room: usize) -> Verdict
+    ensures { λ r. ⌜ r ≡ cellsVerdict total room ⌝ }
+{
+    if CELLS < total {
+        return plain(7);
+    }
+    if room < total as usize {
+        return plain(8);
+    }
+    plain(0)
+}
+
+// Refusals 5 to 8 of count records, with the sum that the trailer says.
+fn records_verdict(records: &[u8], count: usize, said: u32, room: usize) -> Verdict
+    requires { ⌜ (count ≤ functionsMax) × (length (now records) ≡ recordSize * count) ⌝ }
+    ensures { λ r. ⌜ r ≡ recordsVerdict (sum (now (records .entry))) said (firstBad (recordAt (now (records .entry))) 0 count) count (total (exponent (now (records .entry)))) room ⌝ }
+{
+    if sum_of(records) != said {
+        return plain(5);
+    }
+    let bad = first_bad(records, count);
+    if bad < count {
+        return Verdict {
+            number: 6,
+            place: bad as u32,
+        };
+    }
+    cells_verdict(total_of(records), room)
+}
+
+// All refusals but for the upper length, which an image that comes in portions does not have.
+pub(crate) fn judge(image: &[u8], room: usize) -> Verdict
+    ensures { λ r. ⌜ r ≡ judged (now (image .entry)) room ⌝ }
+{
+    let long = image.len();
+    if long < TRAILER {
+        return plain(1);
+    }
+    let count = big_at(image, long - 8, Width::Word);
+    let edition = big_at(image, long - 6, Width::Word);
+    let distance = big_at(image, long - 12, Width::Long);
+    let form = form_refusal(long, edition, count, distance);
+    if form != 0 {
+        return plain(form);
+    }
+    let n = count as usize;
+    let from = long - (RECORD * n + TRAILER);
+    let to = from + RECORD * n;
+    let said = big_at(image, long - 4, Width::Long);
+    records_verdict(&image[from..to], n, said, room)
+}
+
+// Whether a board may be loaded from an image with so many cells lent.
+pub fn check_image(image: &[u8], room: usize) -> Verdict
+    ensures { λ r. ⌜ r ≡ checked (now (image .entry)) room ⌝ }
+{
+    if IMAGE < image.len() {
+        return plain(1);
+    }
+    judge(image, room)
+}

@@ -1,0 +1,71 @@
+// The writer: the loaded board as an image without notes.
+use crate::check::TRAILER;
+use crate::check::sum_of;
+use board::handle::function_count;
+use board::layout::Header;
+use board::layout::RECORD;
+use board::layout::Records;
+use bytes::copy;
+ghost use mathlib.Core.Path.{_≡_};
+ghost use Prim.Native.Nat.{_+_, _*_, _-_, _/_, _%_, _<_, _≤_};
+ghost use mathlib.Core.List.{_++_};
+ghost use lib.ListN.{length, take, drop};
+ghost use Rattle.board.specs.Layout.{functionsMax, recordSize};
+ghost use Rattle.image.specs.Image.{imageSize, trailer, imageOf};
+ghost use Rattle.image.specs.Write.{written, write};
+
+// Byte i of a number of four bytes, from the lowest.
+fn byte_of(v: u32, worth: u32) -> u8
+    requires { ⌜ 0 < worth ⌝ }
+    ensures { λ r. ⌜ r ≡ v / worth % 256 ⌝ }
+{
+    (v / worth % 256) as u8
+}
+
+// The trailer of count records with this sum.
+fn trailer(count: u32, sum: u32) -> [u8; TRAILER]
+    requires { ⌜ count ≤ functionsMax ⌝ }
+    ensures { λ r. ⌜ r ≡ trailer count sum ⌝ }
+{
+    let size = RECORD as u32 * count + TRAILER as u32;
+    [
+        byte_of(size, 16777216),
+        byte_of(size, 65536),
+        byte_of(size, 256),
+        byte_of(size, 1),
+        byte_of(count, 256),
+        byte_of(count, 1),
+        0,
+        1,
+        byte_of(sum, 16777216),
+        byte_of(sum, 65536),
+        byte_of(sum, 256),
+        byte_of(sum, 1),
+    ]
+}
+
+// An image of the loaded records at the front of the output.
+fn put_image(records: &[u8], count: u32, out: &mut [u8])
+    requires { ⌜ (count ≤ functionsMax) × ((length (now records) ≡ functionsMax * recordSize) × (imageSize count ≤ length (now out))) ⌝ }
+    ensures { λ _. ⌜ now (out .exit) ≡ imageOf count (now (records .entry)) ++ drop (imageSize count) (now (out .entry)) ⌝ }
+{
+    let n = RECORD * count as usize;
+    copy(&records[..n], out);
+    let t = trailer(count, sum_of(&records[..n]));
+    copy(&t, &mut out[n..]);
+}
+
+// The loaded board as an image; the number of the refusal, 0 for none.
+pub fn write_image(header: &Header, records: &Records, out: &mut [u8]) -> u32
+    ensures { λ r. ⌜ written r (now (out .exit)) ≡ write (now (header .entry)) (now (records .entry)) (now (out .entry)) ⌝ }
+{
+    let count = function_count(header);
+    if out.len() < RECORD * count as usize + TRAILER {
+        return 1;
+    }
+    if count == 0 {
+        return 3;
+    }
+    put_image(records, count, out);
+    0
+}

@@ -1,0 +1,3 @@
+// The rules of one record of a board image.
+mod entry;
+pub mod rules;

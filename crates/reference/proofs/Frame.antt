@@ -1,0 +1,157 @@
+-- Claim 3: what a call may not touch is equal before and after it.
+use Prim.Native.Nat.{ℕ, _+_, _*_, _-_, _<_, _≤_}
+use native.Mathlib.Omega.{arith}
+use mathlib.Core.Bool.{Bool, true, false, false≢true}
+use mathlib.Core.Path.{_≡_, refl, sym, _∙_, ap}
+use mathlib.Core.List.{List, _++_}
+use lib.Dec.{ltb, eqb}
+use lib.ListN.{length, getD, drop, length-append, length-drop}
+use lib.Seq.{getD-append-add, getD-drop}
+use borrow.Author.Tests.{ltb-false, eqb-true}
+use Rattle.board.specs.Parts.{Parts}
+use Rattle.board.specs.Layout.{functionsMax, recordSize, registersEach, markSize}
+use Rattle.board.specs.Tables.{tableFrom, table}
+use Rattle.board.proofs.Tables.{table-length}
+use Rattle.image.specs.Cells.{total, zeroed}
+use Rattle.image.specs.Image.{trailerSize, imageSize, sum, trailer}
+use Rattle.image.proofs.Lists.{zeroed-length, zeroed-past}
+use Rattle.image.proofs.Accepted.{accepted-image}
+use Rattle.reference.specs.declared.Answer.{Answer}
+use Rattle.reference.specs.declared.Call.{Call}
+use Rattle.reference.specs.declared.Call.the-variants.{Load, Reset, WriteImage, ListWindow}
+use Rattle.reference.specs.Answers.{answer, zeros, ofStatus, ofVerdict}
+use Rattle.reference.specs.State.{Next, next}
+use Rattle.reference.specs.Reference.{Reference, Told, told, exponentOf, joined, fresh, imageRecords, imageBytes, verdict, referenceStep, referenceStart}
+use Rattle.reference.specs.Run.{Asked, stepOn, referenceAfter, partsOf}
+use Rattle.reference.specs.Claims.{Touch, every, mayTouch, Alike, Framed, Frame}
+use Rattle.reference.proofs.Tests.{ifTest}
+use Rattle.reference.proofs.Records.{joined-length}
+use Rattle.reference.proofs.Same.{image-total, verdict-same}
+use Rattle.reference.proofs.Simulation.{Sound, same, sound-start, start-same}
+use Rattle.reference.proofs.Refinement.{goes}
+
+alike : (t : ℕ → Bool) (l : List ℕ) → Alike t l l
+alike t l = record { room = refl; same = λ i e. refl }
+
+touched : {A : Type 0} → true ≡ false → A
+touched e = absurd (false≢true (sym e))
+
+-- what the claim says of the reference machine's outcome
+abbrev Stays : Touch → Reference → List ℕ → Told → Type 0
+Stays t b own r = Framed t (partsOf b) own (next (r .answer) (partsOf (r .reference)) (r .own))
+
+keeps : (t : Touch) (b : Reference) (own : List ℕ) (a : Answer) → Stays t b own (told a b own)
+keeps t b own a =
+    record {
+      header = λ e. refl;
+      records = λ e. refl;
+      offsets = λ e. refl;
+      registers = alike _ _;
+      list = λ e. refl;
+      hooks = λ e. refl;
+      used = alike _ _;
+      cells = alike _ _;
+      own = alike _ _;
+    }
+
+-- cells past those that are zeroed
+zeroed-alike : (n : ℕ) (cells : List ℕ) → n ≤ length cells → Alike (λ i. ltb i n) (zeroed n cells) cells
+zeroed-alike n cells h = record { room = zeroed-length n cells h; same = λ i e. zeroed-past n cells i (ltb-false i n e) }
+
+-- two tables of a length
+table-alike : (n : ℕ) (f g : ℕ → ℕ) → Alike every (table n f) (table n g)
+table-alike n f g = record { room = table-length 0 n f ∙ sym (table-length 0 n g); same = λ i e. touched e }
+
+-- an image put to the front of an own buffer
+front-alike : (n : ℕ) (image own : List ℕ) → length image ≡ n → n ≤ length own → Alike (λ i. ltb i n) (image ++ drop n own) own
+front-alike n image own e h =
+    record {
+      room = length-append image (drop n own) ∙ rw (e, length-drop n own) (omega arith);
+      same = λ i t. past i (ltb-false i n t);
+    }
+  where
+    past : (i : ℕ) → n ≤ i → getD (image ++ drop n own) i 0 ≡ getD own i 0
+    past i l =
+        let a : i ≡ length image + (i - n) = omega (arith, e) in
+        let c : n + (i - n) ≡ i = omega arith in
+        ap (λ j. getD (image ++ drop n own) j 0) a ∙ getD-append-add image (drop n own) (i - n) 0 ∙ getD-drop n own (i - n) 0
+        ∙ ap (λ j. getD own j 0) c
+
+module _ (b : Reference) (s : Sound b) (own : List ℕ) where
+  stays-load : Stays (mayTouch b Load own) b own (referenceStep b Load own)
+  unfolding mayTouch referenceStep partsOf
+  stays-load =
+      ifTest (Stays (mayTouch b Load own) b own) (eqb (verdict own (length (b .cells)) .number) 0)
+      (λ e.
+      let z = eqb-true (verdict own (length (b .cells)) .number) 0 e in
+      let a = accepted-image own (length (b .cells)) (rw (verdict-same own (length (b .cells))) z) in
+      record {
+        header = λ t. touched t;
+        records = λ t. touched t;
+        offsets = λ t. touched t;
+        registers = table-alike (functionsMax * registersEach) _ _;
+        list = λ t. touched t;
+        hooks = λ t. touched t;
+        used = table-alike (functionsMax * markSize) _ _;
+        cells = zeroed-alike _ (b .cells) (rw (image-total own) (a .fine .fits));
+        own = alike _ own;
+      })
+      (λ e. keeps (mayTouch b Load own) b own _)
+
+  stays-reset : Stays (mayTouch b Reset own) b own (referenceStep b Reset own)
+  unfolding mayTouch referenceStep partsOf
+  stays-reset =
+      ifTest (Stays (mayTouch b Reset own) b own) (ltb (length (b .cells)) (total (exponentOf (b .records))))
+      (λ e. keeps (mayTouch b Reset own) b own _)
+      (λ e.
+      record {
+        header = λ t. refl;
+        records = λ t. refl;
+        offsets = λ t. refl;
+        registers = table-alike (functionsMax * registersEach) _ _;
+        list = λ t. touched t;
+        hooks = λ t. touched t;
+        used = table-alike (functionsMax * markSize) _ _;
+        cells = zeroed-alike _ (b .cells) (s .fits);
+        own = alike _ own;
+      })
+
+  image-length : length (imageBytes (b .records)) ≡ imageSize (length (b .records))
+  unfolding tableFrom
+  image-length = length-append (joined (b .records)) _ ∙ rw (joined-length (b .records) (s .sized))
+
+  stays-write : Stays (mayTouch b WriteImage own) b own (referenceStep b WriteImage own)
+  unfolding mayTouch referenceStep partsOf
+  stays-write =
+      ifTest (Stays (mayTouch b WriteImage own) b own) (ltb (length own) (imageSize (length (b .records))))
+      (λ e. keeps (mayTouch b WriteImage own) b own _)
+      (λ e.
+      ifTest (Stays (mayTouch b WriteImage own) b own) (eqb (length (b .records)) 0)
+      (λ z. keeps (mayTouch b WriteImage own) b own _)
+      (λ z.
+      record {
+        header = λ t. refl;
+        records = λ t. refl;
+        offsets = λ t. refl;
+        registers = alike _ _;
+        list = λ t. refl;
+        hooks = λ t. refl;
+        used = alike _ _;
+        cells = alike _ _;
+        own = front-alike _ (imageBytes (b .records)) own image-length (ltb-false (length own) _ e);
+      }))
+
+  stays : (c : Call) → Stays (mayTouch b c own) b own (referenceStep b c own)
+  unfolding referenceStep
+  stays Load = stays-load
+  stays Reset = stays-reset
+  stays WriteImage = stays-write
+  stays (ListWindow n) = keeps (mayTouch b (ListWindow n) own) b own _
+
+framed : (b : Reference) → Sound b → (c : Asked) → Framed (mayTouch b (c .call) (c .own)) (partsOf b) (c .own) (stepOn (partsOf b) c)
+framed b s c = rw (same b s (c .call) (c .own) .answer, same b s (c .call) (c .own) .parts, same b s (c .call) (c .own) .own) (stays b s (c .own) (c .call))
+
+pub frame : Frame
+frame cells cs c =
+    let g = goes (referenceStart cells) (sound-start cells) cs in
+    rw (start-same cells, g .stands) (framed (referenceAfter (referenceStart cells) cs) (g .sound) c)

@@ -1,0 +1,112 @@
+-- Claim 1: a refused call changes nothing and gives a stated number and the filler.
+use Prim.Native.Nat.{ℕ, zero, suc, _+_}
+use native.Mathlib.Omega.{arith}
+use mathlib.Core.Bool.{Bool, true, false, not, cond, _||_, false≢true}
+use mathlib.Core.Logic.{_⊎_, inl, inr, ⊎-elim}
+use mathlib.Core.Path.{_≡_, refl, sym, _∙_, ap}
+use mathlib.Core.List.{List, [], _∷_}
+use lib.Dec.{ltb, eqb}
+use lib.IntN.{ℤ, pos, negsuc}
+use borrow.Author.Tests.{ne-eqb, eqb-false}
+use lib.ListN.{length, getD, replicate}
+use Rattle.board.specs.Parts.{Parts}
+use Rattle.board.specs.Statuses.{successful, bufferTooSmall, deviceNotFound}
+use Rattle.board.specs.Layout.{functionsMax, windowsMax}
+use Rattle.board.specs.Handles.{functionCount}
+use Rattle.window_list.specs.Windows.{Window}
+use Rattle.window_list.specs.Kept.{unpacked}
+use Rattle.window_list.specs.Listing.{listing, numberOf, valuesOf}
+use Rattle.image.specs.Image.{trailerSize, imageSize}
+use Rattle.image.specs.Refusals.{Facts, imageMax, cellsMax, accepted, refused, badRecord, formRefusal, recordsVerdict, firstRefusal}
+use Rattle.image.specs.Check.{factsOf, checked}
+use Rattle.image.specs.Load.{Loaded, loaded, load, reset}
+use Rattle.image.specs.Load.{Reset as ResetDone}
+use Rattle.image.specs.Write.{Written, write}
+use Rattle.image.specs.declared.check.Verdict.{Verdict}
+use Rattle.reference.specs.declared.Answer.{Answer}
+use Rattle.reference.specs.declared.Call.{Call}
+use Rattle.reference.specs.declared.Call.the-variants.{Load, Reset, WriteImage, ListWindow}
+use Rattle.reference.specs.Answers.{answer, zeros, ofStatus, ofVerdict}
+use Rattle.reference.specs.State.{Next, next, step}
+use Rattle.reference.specs.Claims.{Among, refusals, Filler, Untouched, Refusal}
+use Rattle.reference.proofs.Tests.{ifTest}
+
+-- what the claim says of one outcome
+abbrev Kept : Parts → Call → List ℕ → Next → Type 0
+Kept p c own n = n .answer .refused ≡ true → Untouched p c own n
+
+-- an accepted call is not refused
+not-refused : {A : Type 0} → false ≡ true → A
+not-refused e = absurd (false≢true e)
+
+-- every verdict is acceptance, the refusal of a record, or one of the other numbers
+pub data Stated : Verdict → Type 0 where
+  fine : Stated accepted
+  bad : (i : ℕ) → Stated (badRecord i)
+  plain : (n : ℕ) → Among (pos n) (refusals Load) → Stated (refused n)
+
+-- the number of the trailer's refusal
+form-stated : (f : Facts) → let n = formRefusal (f .length) (f .edition) (f .count) (f .distance) in (n ≡ 0) ⊎ Among (pos n) (refusals Load)
+form-stated f =
+    ifTest P (ltb (f .length) trailerSize) (λ e. inr (inl refl)) (λ e.
+    ifTest P (not (eqb (f .edition) 1)) (λ e. inr (inr (inl refl))) (λ e.
+    ifTest P (eqb (f .count) 0 || ltb functionsMax (f .count)) (λ e. inr (inr (inr (inl refl)))) (λ e.
+    ifTest P (not (eqb (f .distance) (imageSize (f .count))) || ltb (f .length) (imageSize (f .count)))
+    (λ e. inr (inr (inr (inr (inl refl))))) (λ e. inl refl))))
+  where
+    P : ℕ → Type 0
+    P n = (n ≡ 0) ⊎ Among (pos n) (refusals Load)
+
+records-stated : (f : Facts) (room : ℕ) → Stated (recordsVerdict (f .sum) (f .said) (f .bad) (f .count) (f .total) room)
+records-stated f room =
+    ifTest Stated (not (eqb (f .sum) (f .said))) (λ e. plain 5 (inr (inr (inr (inr (inl refl)))))) (λ e.
+    ifTest Stated (ltb (f .bad) (f .count)) (λ e. bad (f .bad)) (λ e.
+    ifTest Stated (ltb cellsMax (f .total)) (λ e. plain 7 (inr (inr (inr (inr (inr (inr (inl refl)))))))) (λ e.
+    ifTest Stated (ltb room (f .total)) (λ e. plain 8 (inr (inr (inr (inr (inr (inr (inr (inl refl))))))))) (λ e. fine))))
+
+facts-stated : (f : Facts) (room : ℕ) → Stated (firstRefusal f room)
+unfolding firstRefusal
+facts-stated f room =
+    let n = formRefusal (f .length) (f .edition) (f .count) (f .distance) in
+    ifTest Stated (eqb n 0) (λ e. records-stated f room)
+    (λ e. ⊎-elim (λ z. absurd (eqb-false n 0 e z)) (λ a. plain n a) (form-stated f))
+
+stated : (image : List ℕ) (room : ℕ) → Stated (checked image room)
+unfolding checked
+stated image room = ifTest Stated (ltb imageMax (length image)) (λ e. plain 1 (inl refl)) (λ e. facts-stated (factsOf image) room)
+
+-- a load with a verdict
+load-kept : (p q : Parts) (own : List ℕ) (v : Verdict) → Stated v
+    → Kept p Load own (let w = cond (eqb (v .number) 0) (loaded v q) (loaded v p) in next (ofVerdict (w .verdict)) (w .parts) own)
+load-kept p q own v fine = λ e. not-refused e
+load-kept p q own v (bad i) =
+    λ e. record { number = inr (inr (inr (inr (inr (inl refl))))); filler = inr (refl, refl); parts = refl; own = refl }
+load-kept p q own v (plain zero a) = λ e. not-refused e
+load-kept p q own v (plain (suc n) a) =
+    rw (ne-eqb (suc n) 0 (λ z. omega arith)) (λ e. record { number = a; filler = inl refl; parts = refl; own = refl })
+
+-- a listing refuses exactly past the end
+list-kept : (p : Parts) (own : List ℕ) (n : ℕ) (l : List Window) (m : ℕ)
+    → Kept p (ListWindow n) own (next (answer (numberOf (listing l m)) (valuesOf (listing l m))) p own)
+unfolding listing
+list-kept p own n [] m = λ e. record { number = inl refl; filler = refl; parts = refl; own = refl }
+list-kept p own n (w ∷ l) zero = λ e. not-refused e
+list-kept p own n (w ∷ l) (suc m) = list-kept p own n l m
+
+pub refusal : Refusal
+unfolding step load reset write
+refusal p Load own = load-kept p _ own (checked own (length (p .cells))) (stated own (length (p .cells)))
+refusal p Reset own =
+    ifTest (λ (w : ResetDone). Kept p Reset own (next (ofStatus (w .status)) (w .parts) own))
+    (ltb (length (p .cells)) (getD (p .cellOffsets) windowsMax 0))
+    (λ e f. record { number = inl refl; filler = refl; parts = refl; own = refl }) (λ e f. not-refused f)
+refusal p WriteImage own =
+    ifTest K (ltb (length own) (imageSize (functionCount (p .header))))
+    (λ e f. record { number = inl refl; filler = refl; parts = refl; own = refl })
+    (λ e.
+    ifTest K (eqb (functionCount (p .header)) 0) (λ z f. record { number = inr (inl refl); filler = refl; parts = refl; own = refl })
+    (λ z f. not-refused f))
+  where
+    K : Written → Type 0
+    K w = Kept p WriteImage own (next (answer (pos (w .number)) zeros) p (w .out))
+refusal p (ListWindow n) own = list-kept p own n (unpacked (p .windows)) n

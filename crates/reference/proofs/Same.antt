@@ -1,0 +1,142 @@
+-- The lent parts after a load or a reset are those of the reference machine's fresh board.
+use Prim.Native.Nat.{ℕ, zero, suc, _+_, _*_, _-_, _/_, _%_, _<_, _≤_, min}
+use native.Mathlib.Omega.{arith}
+use native.Mathlib.Nat.{min-eq-left, min-le-left}
+use mathlib.Core.Bool.{Bool, true, false, cond}
+use mathlib.Core.Logic.{_⊎_, ⊎-elim}
+use mathlib.Core.Path.{_≡_, refl, sym, _∙_, ap}
+use mathlib.Core.List.{List, [], _∷_, _++_}
+use lib.Dec.{eqb}
+use lib.ListN.{length, getD, take, drop, replicate, length-take, length-drop}
+use lib.Seq.{length-take-le}
+use Rattle.board.specs.Numbers.{byteAt}
+use Rattle.board.specs.Tables.{tableFrom, table}
+use Rattle.board.specs.Parts.{parts}
+use Rattle.board.specs.Handles.{functionCount}
+use Rattle.board.specs.Layout.{functionsMax, bases, windowsMax, recordSize, entriesAt, entrySize, registersEach, hookSize, markSize, recordByte, exponent, registerByte}
+use Rattle.board.proofs.Tables.{table-get, table-same, table-constant}
+use Rattle.window_list.specs.Windows.{listOf, windowList}
+use Rattle.window_list.specs.Kept.{keptList}
+use Rattle.window_list.specs.Meaning.{Watched}
+use Rattle.window_list.proofs.Meaning.{list-same}
+use Rattle.image.specs.Cells.{total, cellsBefore, offsetsOf, zeroed}
+use Rattle.image.specs.Image.{imageSize, countOf, recordsOf, recordAt, sum}
+use Rattle.image.specs.Refusals.{Facts, firstBad}
+use Rattle.image.specs.Check.{factsOf, checked}
+use Rattle.image.specs.Load.{padded, registersOf, restarted, installed}
+use Rattle.image.proofs.Lists.{zeros-after}
+use Rattle.image.proofs.Ranges.{offset-at, before-same}
+use Rattle.image.proofs.Accepted.{Accepted}
+use Rattle.reference.specs.Reference.{Reference, recordOf, exponentOf, joined, fresh, imageRecords, imageFacts, verdict}
+use Rattle.reference.specs.Run.{numbers, lineByLine, filledUp, markNumber, partsOf}
+use Rattle.reference.proofs.Records.{Sized, joined-length, joined-byte, split-length, split-sized, split-joined, split-byte, split-record, bad-same}
+
+-- the exponents of all slots are read alike
+pub offsets-same : (k k′ : ℕ → ℕ → ℕ) → ((i b : ℕ) → b < bases → k i b ≡ k′ i b) → offsetsOf k ≡ offsetsOf k′
+offsets-same k k′ e = table-same 0 0 (windowsMax + 1) (cellsBefore k) (cellsBefore k′) (λ j h. before-same k k′ (0 + j) (λ i l. e (i / bases) (i % bases) (omega arith)))
+
+-- hooks and marks cleared
+pub no-hooks : filledUp (functionsMax * hookSize) (lineByLine (λ line. []) functionsMax) ≡ replicate (functionsMax * hookSize) 0
+unfolding lineByLine numbers
+no-hooks = refl
+
+pub no-marks : table (functionsMax * markSize) (markNumber (λ i. record { status = 0; callBack = 0 })) ≡ replicate (functionsMax * markSize) 0
+unfolding tableFrom
+no-marks = refl
+
+module _ (rs : List (List ℕ)) (s : Sized rs) where
+  -- a byte of the records array
+  kept-byte : (i at : ℕ) → at < recordSize → recordByte (padded (joined rs)) i at ≡ byteAt (recordOf rs i) at
+  kept-byte i at h =
+      zeros-after (joined rs) (functionsMax * recordSize - length (joined rs)) (recordSize * i + at) ∙ joined-byte rs s i at h
+
+  kept-exponent : (i b : ℕ) → b < bases → exponent (padded (joined rs)) i b ≡ exponentOf rs i b
+  kept-exponent i b h =
+      let e : entriesAt + entrySize * b + 0 ≡ entriesAt + entrySize * b = omega arith in
+      rw e (kept-byte i (entriesAt + entrySize * b) (omega arith))
+
+  registers-same : registersOf (padded (joined rs)) ≡ table (functionsMax * registersEach) (λ j. byteAt (recordOf rs (j / registersEach)) (j % registersEach))
+  unfolding registersOf
+  registers-same =
+      table-same 0 0 (functionsMax * registersEach) _ _ (λ j h. kept-byte ((0 + j) / registersEach) ((0 + j) % registersEach) (omega arith))
+
+  register-same : (i at : ℕ) → i < functionsMax → at < registersEach → registerByte (registersOf (padded (joined rs))) i at ≡ byteAt (recordOf rs i) at
+  register-same i at h a =
+      let n = registersEach * i + at in
+      let q : (0 + n) / registersEach ≡ i = omega arith in
+      let r : (0 + n) % registersEach ≡ at = omega arith in
+      rw registers-same (table-get 0 (functionsMax * registersEach) (λ j. byteAt (recordOf rs (j / registersEach)) (j % registersEach)) n (omega arith) ∙ rw (q, r))
+
+  list-kept : length rs ≤ functionsMax
+      → windowList (length rs ∷ 0 ∷ 0 ∷ 0 ∷ []) (padded (joined rs)) (registersOf (padded (joined rs)))
+      ≡ listOf (length rs) (exponentOf rs) (λ i. byteAt (recordOf rs i))
+  list-kept h =
+      rw (min-eq-left h)
+      (list-same (length rs) (exponent (padded (joined rs))) (exponentOf rs) (registerByte (registersOf (padded (joined rs)))) (λ i. byteAt (recordOf rs i))
+      (λ i b l m. kept-exponent i b m)
+      (λ i at l w. register-same i at (omega arith) (⊎-elim (λ e. omega arith) (λ e. omega (arith, e .1)) w)))
+
+  -- the parts that a load or a reset leaves
+  pub restart-same : (cells : List ℕ) → length rs ≤ functionsMax
+      → restarted (length rs ∷ 0 ∷ 0 ∷ 0 ∷ []) (padded (joined rs)) (offsetsOf (exponentOf rs)) cells ≡ partsOf (fresh rs cells)
+  unfolding restarted partsOf
+  restart-same cells h =
+      rw (list-kept h, registers-same, offset-at (exponentOf rs) windowsMax (omega arith), no-hooks, no-marks)
+
+-- an image's records are no longer than its count says
+records-few : (image : List ℕ) → length (recordsOf image) ≤ recordSize * countOf image
+records-few image =
+    let n = recordSize * countOf image in
+    let l = drop (length image - imageSize (countOf image)) image in
+    rw (length-take n l) (min-le-left n (length l))
+
+image-exponent : (image : List ℕ) (i b : ℕ) → b < bases → exponentOf (imageRecords image) i b ≡ exponent (recordsOf image) i b
+image-exponent image i b h =
+    let e : entriesAt + entrySize * b + 0 ≡ entriesAt + entrySize * b = omega arith in
+    rw e (split-byte (countOf image) (recordsOf image) i (entriesAt + entrySize * b) (records-few image) (omega arith))
+
+pub image-total : (image : List ℕ) → total (exponentOf (imageRecords image)) ≡ total (exponent (recordsOf image))
+image-total image =
+    before-same (exponentOf (imageRecords image)) (exponent (recordsOf image)) windowsMax
+    (λ i h. image-exponent image (i / bases) (i % bases) (omega arith))
+
+facts-same : (image : List ℕ) → imageFacts image ≡ factsOf image
+facts-same image =
+    let n = countOf image in
+    rw (
+      bad-same (recordOf (imageRecords image)) (recordAt (recordsOf image)) 0 n (λ j h. split-record n (recordsOf image) j (omega arith)),
+      image-total image,
+    )
+
+-- both judge an image alike
+pub verdict-same : (image : List ℕ) (room : ℕ) → checked image room ≡ verdict image room
+unfolding checked verdict
+verdict-same image room = rw (facts-same image)
+
+-- the records of an accepted image, one by one
+pub record Whole (image : List ℕ) : Type 0 where
+  pub few : length (imageRecords image) ≤ functionsMax
+  pub sized : Sized (imageRecords image)
+  pub bytes : joined (imageRecords image) ≡ recordsOf image
+
+pub whole : (image : List ℕ) (room : ℕ) → Accepted image room → Whole image
+whole image room a =
+    let n = countOf image in
+    let l = drop (length image - imageSize n) image in
+    let e : length (recordsOf image) ≡ recordSize * n =
+    length-take-le (recordSize * n) l (rw (length-drop (length image - imageSize n) image) (omega (arith, a .fine .whole)))
+    in
+    record {
+      few = rw (split-length n (recordsOf image)) (a .fine .few);
+      sized = split-sized n (recordsOf image) (omega (arith, e));
+      bytes = split-joined n (recordsOf image) e;
+    }
+
+installed-as : (image cells : List ℕ) (rs : List (List ℕ)) → countOf image ≡ length rs → recordsOf image ≡ joined rs → Sized rs
+    → length rs ≤ functionsMax → installed image cells ≡ partsOf (fresh rs cells)
+installed-as image cells rs n l s f =
+    rw (l, n, offsets-same (exponent (padded (joined rs))) (exponentOf rs) (λ i b h. kept-exponent rs s i b h)) (restart-same rs s cells f)
+
+pub installed-same : (image cells : List ℕ) → Whole image → installed image cells ≡ partsOf (fresh (imageRecords image) cells)
+installed-same image cells w =
+    installed-as image cells (imageRecords image) (sym (split-length (countOf image) (recordsOf image))) (sym (w .bytes)) (w .sized) (w .few)

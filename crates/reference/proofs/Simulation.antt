@@ -1,0 +1,146 @@
+-- One call: the program's step on the parts of a reference state is the reference machine's step.
+use Prim.Native.Nat.{ℕ, _+_, _*_, _-_, _<_, _≤_, min}
+use native.Mathlib.Omega.{arith}
+use native.Mathlib.Nat.{min-eq-left}
+use mathlib.Core.Bool.{Bool, true, false, cond}
+use mathlib.Core.Path.{_≡_, refl, sym, _∙_, ap}
+use mathlib.Core.List.{List, [], _∷_, _++_}
+use lib.Dec.{ltb, eqb}
+use lib.IntN.{pos}
+use lib.ListN.{length, getD, take, drop, replicate}
+use lib.Seq.{take-at}
+use borrow.Author.Tests.{eqb-true}
+use Rattle.board.specs.Parts.{Parts}
+use Rattle.board.specs.Tables.{tableFrom}
+use Rattle.board.specs.Layout.{functionsMax, recordSize, registersEach, windowsMax}
+use Rattle.board.proofs.Tables.{table-constant}
+use Rattle.board.specs.Statuses.{successful, bufferTooSmall}
+use Rattle.window_list.specs.Windows.{gather, openWindows, putAll, listOf}
+use Rattle.window_list.specs.Kept.{keptList, unpacked}
+use Rattle.window_list.specs.Listing.{listing}
+use Rattle.window_list.proofs.KeptArray.{kept-of}
+use Rattle.window_list.proofs.Answers.{number-is, values-are}
+use Rattle.image.specs.Cells.{cellsBefore, total, offsetsOf, zeroed}
+use Rattle.image.specs.Image.{imageSize, countOf, imageOf, sum, trailer}
+use Rattle.image.specs.Load.{Loaded, padded, load, reset}
+use Rattle.image.specs.Load.{Reset as ResetDone}
+use Rattle.image.specs.Write.{Written, write}
+use Rattle.image.proofs.Lists.{zeroed-length}
+use Rattle.image.proofs.Ranges.{offset-at}
+use Rattle.image.proofs.Accepted.{Accepted, accepted-image}
+use Rattle.reference.specs.declared.Answer.{Answer}
+use Rattle.reference.specs.declared.Call.{Call}
+use Rattle.reference.specs.declared.Call.the-variants.{Load, Reset, WriteImage, ListWindow}
+use Rattle.reference.specs.Answers.{answer, zeros, ofStatus, ofVerdict}
+use Rattle.reference.specs.State.{Next, next, step}
+use Rattle.reference.specs.Reference.{Reference, Told, told, exponentOf, joined, fresh, imageRecords, windowsOf, imageBytes, verdict, referenceStep, referenceStart}
+use Rattle.reference.specs.Run.{partsOf, start}
+use Rattle.reference.proofs.Tests.{ifTest, ifBoth}
+use Rattle.reference.proofs.Records.{Sized, joined-length}
+use Rattle.reference.proofs.Same.{image-total, verdict-same, whole, installed-same, restart-same, no-hooks, no-marks}
+
+-- what every reference state of a run has
+pub record Sound (b : Reference) : Type 0 where
+  pub few : length (b .records) ≤ functionsMax
+  pub sized : Sized (b .records)
+  pub fits : total (exponentOf (b .records)) ≤ length (b .cells)
+
+pub record Same (n : Next) (t : Told) : Type 0 where
+  pub answer : n .answer ≡ t .answer
+  pub parts : n .parts ≡ partsOf (t .reference)
+  pub own : n .own ≡ t .own
+  pub sound : Sound (t .reference)
+
+-- a fresh board is sound
+fresh-sound : (rs : List (List ℕ)) (cells : List ℕ) → length rs ≤ functionsMax → Sized rs → total (exponentOf rs) ≤ length cells → Sound (fresh rs cells)
+fresh-sound rs cells f s h =
+    record { few = f; sized = s; fits = rw (zeroed-length (total (exponentOf rs)) cells h) h }
+
+module _ (b : Reference) (s : Sound b) where
+  same-load : (own : List ℕ) → Same (step (partsOf b) Load own) (referenceStep b Load own)
+  unfolding step referenceStep load partsOf
+  same-load own =
+      rw (verdict-same own (length (b .cells)))
+      (ifBoth (λ (w : Loaded) t. Same (next (ofVerdict (w .verdict)) (w .parts) own) t) (eqb (verdict own (length (b .cells)) .number) 0)
+      (λ e.
+      let z = eqb-true (verdict own (length (b .cells)) .number) 0 e in
+      let a = accepted-image own (length (b .cells)) (rw (verdict-same own (length (b .cells))) z) in
+      let w = whole own (length (b .cells)) a in
+      record {
+        answer = refl;
+        parts = installed-same own (b .cells) w;
+        own = refl;
+        sound = fresh-sound (imageRecords own) (b .cells) (w .few) (w .sized) (rw (image-total own) (a .fine .fits));
+      })
+      (λ e. record { answer = refl; parts = refl; own = refl; sound = s }))
+
+  count-same : min (length (b .records)) functionsMax ≡ length (b .records)
+  count-same = min-eq-left (s .few)
+
+  same-reset : (own : List ℕ) → Same (step (partsOf b) Reset own) (referenceStep b Reset own)
+  unfolding step referenceStep reset partsOf
+  same-reset own =
+      rw (offset-at (exponentOf (b .records)) windowsMax (omega arith))
+      (ifBoth (λ (w : ResetDone) t. Same (next (ofStatus (w .status)) (w .parts) own) t)
+      (ltb (length (b .cells)) (total (exponentOf (b .records))))
+      (λ e. record { answer = refl; parts = refl; own = refl; sound = s })
+      (λ e.
+      record {
+        answer = refl;
+        parts = restart-same (b .records) (s .sized) (b .cells) (s .few);
+        own = refl;
+        sound = fresh-sound (b .records) (b .cells) (s .few) (s .sized) (s .fits);
+      }))
+
+  image-same : imageOf (length (b .records)) (padded (joined (b .records))) ≡ imageBytes (b .records)
+  image-same =
+      let j = joined (b .records) in
+      rw (take-at j (replicate (functionsMax * recordSize - length j) 0) (recordSize * length (b .records)) (joined-length (b .records) (s .sized)))
+
+  same-write : (own : List ℕ) → Same (step (partsOf b) WriteImage own) (referenceStep b WriteImage own)
+  unfolding step referenceStep write partsOf
+  same-write own =
+      rw (count-same, image-same)
+      (ifBoth (λ (w : Written) t. Same (next (answer (pos (w .number)) zeros) (partsOf b) (w .out)) t)
+      (ltb (length own) (imageSize (length (b .records))))
+      (λ e. record { answer = refl; parts = refl; own = refl; sound = s })
+      (λ e.
+      ifBoth (λ (w : Written) t. Same (next (answer (pos (w .number)) zeros) (partsOf b) (w .out)) t) (eqb (length (b .records)) 0)
+      (λ z. record { answer = refl; parts = refl; own = refl; sound = s })
+      (λ z. record { answer = refl; parts = refl; own = refl; sound = s })))
+
+  same-list : (n : ℕ) (own : List ℕ) → Same (step (partsOf b) (ListWindow n) own) (referenceStep b (ListWindow n) own)
+  unfolding step referenceStep partsOf
+  same-list n own =
+      rw (kept-of (length (b .records)) (exponentOf (b .records)) (b .registers) (s .few), number-is (windowsOf b) n, values-are (windowsOf b) n)
+      (record { answer = refl; parts = refl; own = refl; sound = s })
+
+  pub same : (c : Call) (own : List ℕ) → Same (step (partsOf b) c own) (referenceStep b c own)
+  same Load own = same-load own
+  same Reset own = same-reset own
+  same WriteImage own = same-write own
+  same (ListWindow n) own = same-list n own
+
+no-cells : total (exponentOf []) ≡ 0
+unfolding cellsBefore
+no-cells = refl
+
+pub sound-start : (cells : List ℕ) → Sound (referenceStart cells)
+sound-start cells = record { few = omega arith; sized = tt; fits = rw no-cells (omega arith) }
+
+no-windows : keptList (listOf 0 (exponentOf []) (λ i register. 0)) ≡ replicate windowsMax 0
+unfolding keptList listOf openWindows gather putAll
+no-windows = refl
+
+no-offsets : offsetsOf (exponentOf []) ≡ replicate (windowsMax + 1) 0
+unfolding cellsBefore tableFrom
+no-offsets = refl
+
+no-records : padded (joined []) ≡ replicate (functionsMax * recordSize) 0
+unfolding joined
+no-records = refl
+
+pub start-same : (cells : List ℕ) → start cells ≡ partsOf (referenceStart cells)
+unfolding start partsOf
+start-same cells =
+    rw (no-records, table-constant 0 (functionsMax * registersEach) 0, no-windows, no-offsets, no-hooks, no-marks)

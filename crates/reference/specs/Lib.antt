@@ -1,0 +1,6 @@
+-- The reference machine, the program's step, runs of both, and the claims about runs.
+pub mod Answers
+pub mod State
+pub mod Reference
+pub mod Run
+pub mod Claims
