@@ -1,15 +1,16 @@
 -- What is known of an accepted image, and that nothing else is asked of it.
-use Prim.Native.Nat.{ℕ, zero, suc, _<_, _≤_}
+use Prim.Native.Nat.{ℕ, zero, suc, _*_, _-_, _<_, _≤_}
 use native.Mathlib.Omega.{arith}
 use mathlib.Core.Bool.{Bool, true, false, not, cond, _||_}
 use mathlib.Core.Path.{_≡_, refl, sym, _∙_}
 use mathlib.Core.List.{List}
 use lib.Dec.{ltb, eqb}
-use lib.ListN.{length}
+use lib.ListN.{length, drop, length-drop}
+use lib.Seq.{length-take-le}
 use borrow.Author.Tests.{eq-eqb, ne-eqb, le-ltb, ltb-false, eqb-true, eqb-false, not-false}
-use Rattle.board.specs.Layout.{functionsMax}
+use Rattle.board.specs.Layout.{functionsMax, recordSize}
 use Rattle.board.proofs.Tests.{either-false}
-use Rattle.image.specs.Image.{trailerSize, imageSize}
+use Rattle.image.specs.Image.{trailerSize, imageSize, countOf, recordsOf}
 use Rattle.image.specs.Refusals.{Facts, imageMax, cellsMax, accepted, refused, badRecord, formRefusal, recordsVerdict, cellsVerdict, firstRefusal}
 use Rattle.image.specs.Check.{factsOf, checked}
 use Rattle.image.specs.declared.check.Verdict.{Verdict}
@@ -114,3 +115,9 @@ accepted-passes image room k = rw (le-ltb imageMax (length image) (k .short)) (p
 pub accepted-elsewhere : (image : List ℕ) (r : ℕ) → Accepted image r → (room : ℕ) → checked image room ≡ cellsVerdict (factsOf image .total) room
 unfolding checked
 accepted-elsewhere image r k room = rw (le-ltb imageMax (length image) (k .short)) (cells-left (factsOf image) r (k .fine) room)
+
+-- the records are all there
+pub records-length : (image : List ℕ) (room : ℕ) → Accepted image room → length (recordsOf image) ≡ recordSize * countOf image
+records-length image room k =
+    let h = k .fine .whole in
+    length-take-le (recordSize * countOf image) (drop (length image - imageSize (countOf image)) image) (rw length-drop (omega arith))

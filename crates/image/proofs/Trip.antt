@@ -6,8 +6,8 @@ use mathlib.Core.Bool.{Bool, true, false, cond}
 use mathlib.Core.Path.{_≡_, refl, sym, _∙_, ap}
 use mathlib.Core.List.{List, [], _∷_, _++_, append-nil, append-assoc}
 use lib.Dec.{eqb}
-use lib.ListN.{length, take, drop, length-append, length-drop, drop-of-length-le, take-append-drop}
-use lib.Seq.{take-at, length-take-le, drop-drop}
+use lib.ListN.{length, take, drop, length-append, drop-of-length-le, take-append-drop}
+use lib.Seq.{take-at, drop-drop}
 use borrow.Author.Tests.{eq-eqb, ne-eqb, le-ltb}
 use Rattle.board.specs.Numbers.{byteAt, bigBytes, big}
 use Rattle.board.specs.Tables.{tableFrom}
@@ -22,9 +22,9 @@ use Rattle.image.specs.Refusals.{accepted, cellsVerdict}
 use Rattle.image.specs.Check.{factsOf, checked}
 use Rattle.image.specs.Load.{Loaded, loaded, load, padded, restarted, installed}
 use Rattle.image.specs.Write.{Written, write, written}
-use Rattle.image.specs.Meaning.{rewritten, RoundTrip, WrittenBack}
+use Rattle.image.specs.Meaning.{rewritten, RoundTrip, WrittenBack, ImageAlone}
 use Rattle.image.specs.declared.check.Verdict.{Verdict}
-use Rattle.image.proofs.Accepted.{Fine, Accepted, accepted-image, accepted-elsewhere}
+use Rattle.image.proofs.Accepted.{Fine, Accepted, accepted-image, accepted-elsewhere, records-length}
 
 -- what an image says of itself: its trailer's numbers, and its records
 record Says (image r : List ℕ) (n s : ℕ) : Type 0 where
@@ -144,6 +144,17 @@ load-parts : (p : Parts) (image : List ℕ) → load p image .verdict ≡ accept
 unfolding load
 load-parts p image e = rw (eq-eqb (checked image (length (p .cells)) .number) 0 (load-number p image e))
 
+load-whole : (p : Parts) (image : List ℕ) → load p image .verdict ≡ accepted → load p image ≡ loaded accepted (installed image (p .cells))
+unfolding load
+load-whole p image e =
+    rw (eq-eqb (checked image (length (p .cells)) .number) 0 (load-number p image e), sym (load-verdict p image) ∙ e)
+
+-- THEOREM: what else stood in the lent parts plays no role
+pub image-alone : ImageAlone
+image-alone p q image c e =
+    let v : load q image .verdict ≡ accepted = load-verdict q image ∙ rw (← c) (sym (load-verdict p image) ∙ e) in
+    load-whole q image v ∙ rw (← c) (sym (load-whole p image e))
+
 installed-header : (image cells : List ℕ) → installed image cells .header ≡ countOf image ∷ 0 ∷ 0 ∷ 0 ∷ []
 unfolding restarted
 installed-header image cells = refl
@@ -162,11 +173,6 @@ writes n r out some few long room =
     let d : drop (imageSize n) out ≡ [] = drop-of-length-le out {i = imageSize n} (omega arith) in
     rw (c, le-ltb (length out) (imageSize n) (omega arith), ne-eqb n 0 (omega arith), t, d)
     (ap (written 0) (append-nil (r ++ trailer n (sum r))))
-
-records-length : (image : List ℕ) (room : ℕ) → Accepted image room → length (recordsOf image) ≡ recordSize * countOf image
-records-length image room k =
-    let h = k .fine .whole in
-    length-take-le (recordSize * countOf image) (drop (length image - imageSize (countOf image)) image) (rw length-drop (omega arith))
 
 -- an accepted image, loaded and written
 again : List ℕ → List ℕ

@@ -10,8 +10,9 @@ use Rattle.image.specs.Image.{distanceOf, countOf, editionOf, sumOf, rec
 use Rattle.image.specs.Refusals.{Facts, imageMax, refused, firstBad, firstRefusal}
 use Rattle.image.specs.declared.check.Verdict.{Verdict}
 
-abbrev pub factsOf : List ℕ → Facts
-factsOf image =
+-- what an image says of itself, where f i is its record at place i and k i b the length exponent of base register b there
+abbrev pub facts : List ℕ → (ℕ → List ℕ) → (ℕ → ℕ → ℕ) → Facts
+facts image f k =
     record {
       length = length image;
       edition = editionOf image;
@@ -19,9 +20,12 @@ factsOf image =
       distance = distanceOf image;
       said = sumOf image;
       sum = sum (recordsOf image);
-      bad = firstBad (recordAt (recordsOf image)) 0 (countOf image);
-      total = total (exponent (recordsOf image));
+      bad = firstBad f 0 (countOf image);
+      total = total k;
     }
+
+abbrev pub factsOf : List ℕ → Facts
+factsOf image = facts image (recordAt (recordsOf image)) (exponent (recordsOf image))
 
 -- the refusals but for the upper length
 abbrev pub judged : List ℕ → ℕ → Verdict

@@ -1,9 +1,9 @@
 -- A board image: document 01, "Board image". Everything is found by its distance back from the image's end.
-use Prim.Native.Nat.{ℕ, zero, suc, _+_, _-_, _*_}
+use Prim.Native.Nat.{ℕ, _+_, _-_, _*_}
 use mathlib.Core.List.{List, [], _∷_, _++_}
 use lib.ListN.{length, take, drop}
 use Rattle.board.specs.Numbers.{byteAt, big, bigBytes}
-use Rattle.board.specs.Layout.{recordSize, entriesAt, entrySize}
+use Rattle.board.specs.Layout.{recordSize}
 
 abbrev pub trailerSize : ℕ
 trailerSize = 12

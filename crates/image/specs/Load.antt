@@ -56,15 +56,15 @@ load p image =
     let v = checked image (length (p .cells)) in
     cond (eqb (v .number) 0) (loaded v (installed image (p .cells))) (loaded v p)
 
-pub record Reset : Type 0 where
+pub record ResetOutcome : Type 0 where
   pub status : Status
   pub parts : Parts
 
-abbrev pub resetTo : Status → Parts → Reset
+abbrev pub resetTo : Status → Parts → ResetOutcome
 resetTo s p = record { status = s; parts = p }
 
 -- the same from the loaded records; refused where the cells are shorter than the board's total
-unfoldable pub reset : Parts → Reset
+unfoldable pub reset : Parts → ResetOutcome
 reset p =
     cond (ltb (length (p .cells)) (getD (p .cellOffsets) windowsMax 0)) (resetTo bufferTooSmall p)
     (resetTo successful (restarted (p .header) (p .records) (p .cellOffsets) (p .cells)))

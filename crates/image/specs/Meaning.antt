@@ -32,6 +32,11 @@ WrittenBack =
     (p : Parts) (image out : List ℕ) → load p image .verdict ≡ accepted → length image ≡ imageSize (countOf image)
     → ((i : ℕ) → byteAt image i < 256) → length out ≡ length image → rewritten p image out .out ≡ image
 
+-- after a load every lent part is a function of the image alone, but for the cells past its windows
+abbrev pub ImageAlone : Type 0
+ImageAlone =
+    (p q : Parts) (image : List ℕ) → p .cells ≡ q .cells → load p image .verdict ≡ accepted → load q image ≡ load p image
+
 -- the ranges of cells: from 0, each where the one before it ends, apart from all later ones, up to the total
 pub record InOrder (k : ℕ → ℕ → ℕ) (offsets : List ℕ) : Type 0 where
   pub first : getD offsets 0 0 ≡ 0

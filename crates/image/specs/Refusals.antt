@@ -1,6 +1,6 @@
 -- What a load refuses: document 01, "Load refusals", as a table over plain values.
 use Prim.Native.Nat.{ℕ, zero, suc, _+_}
-use mathlib.Core.Bool.{Bool, not, cond, _||_}
+use mathlib.Core.Bool.{not, cond, _||_}
 use mathlib.Core.List.{List}
 use lib.Dec.{ltb, eqb}
 use Rattle.board.specs.Layout.{functionsMax}

@@ -28,12 +28,12 @@ pub const CELLS: u32 = 65536;
 
 // The number of the first refusal that applies, 0 for none; with 6 the place of the first bad record, else 0.
 pub struct Verdict {
-    pub number: u32,
+    pub number: u8,
     pub place: u32,
 }
 
 // A verdict that names no record.
-fn plain(number: u32) -> Verdict
+fn plain(number: u8) -> Verdict
     ensures { λ r. ⌜ r ≡ record { number = number; place = 0 } ⌝ }
 {
     Verdict {
@@ -118,7 +118,7 @@ fn total_of(records: &[u8]) -> u32
 }
 
 // Refusals 2 to 4 of an image that has a trailer; 0 for none.
-fn form_refusal(long: usize, edition: u32, count: u32, distance: u32) -> u32
+fn form_refusal(long: usize, edition: u32, count: u32, distance: u32) -> u8
     requires { ⌜ trailerSize ≤ long ⌝ }
     ensures { λ r. ⌜ r ≡ formRefusal long edition count distance ⌝ }
     ensures { λ r. ⌜ (r ≡ 0 → (count ≤ functionsMax) × (imageSize count ≤ long)) ⌝ }

@@ -56,7 +56,7 @@ fn put_image(records: &[u8], count: u32, out: &mut [u8])
 }
 
 // The loaded board as an image; the number of the refusal, 0 for none.
-pub fn write_image(header: &Header, records: &Records, out: &mut [u8]) -> u32
+pub fn write_image(header: &Header, records: &Records, out: &mut [u8]) -> u8
     ensures { λ r. ⌜ written r (now (out .exit)) ≡ write (now (header .entry)) (now (records .entry)) (now (out .entry)) ⌝ }
 {
     let count = function_count(header);

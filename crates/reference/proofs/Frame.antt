@@ -1,5 +1,5 @@
 -- Claim 3: what a call may not touch is equal before and after it.
-use Prim.Native.Nat.{ℕ, _+_, _*_, _-_, _<_, _≤_}
+use Prim.Native.Nat.{ℕ, _+_, _*_, _-_, _≤_}
 use native.Mathlib.Omega.{arith}
 use mathlib.Core.Bool.{Bool, true, false, false≢true}
 use mathlib.Core.Path.{_≡_, refl, sym, _∙_, ap}
@@ -8,20 +8,19 @@ use lib.Dec.{ltb, eqb}
 use lib.ListN.{length, getD, drop, length-append, length-drop}
 use lib.Seq.{getD-append-add, getD-drop}
 use borrow.Author.Tests.{ltb-false, eqb-true}
-use Rattle.board.specs.Parts.{Parts}
-use Rattle.board.specs.Layout.{functionsMax, recordSize, registersEach, markSize}
+use Rattle.board.specs.Layout.{functionsMax, registersEach, markSize}
 use Rattle.board.specs.Tables.{tableFrom, table}
 use Rattle.board.proofs.Tables.{table-length}
 use Rattle.image.specs.Cells.{total, zeroed}
-use Rattle.image.specs.Image.{trailerSize, imageSize, sum, trailer}
+use Rattle.image.specs.Image.{imageSize}
 use Rattle.image.proofs.Lists.{zeroed-length, zeroed-past}
 use Rattle.image.proofs.Accepted.{accepted-image}
 use Rattle.reference.specs.declared.Answer.{Answer}
 use Rattle.reference.specs.declared.Call.{Call}
 use Rattle.reference.specs.declared.Call.the-variants.{Load, Reset, WriteImage, ListWindow}
-use Rattle.reference.specs.Answers.{answer, zeros, ofStatus, ofVerdict}
-use Rattle.reference.specs.State.{Next, next}
-use Rattle.reference.specs.Reference.{Reference, Told, told, exponentOf, joined, fresh, imageRecords, imageBytes, verdict, referenceStep, referenceStart}
+use Rattle.reference.specs.Answers.{answer}
+use Rattle.reference.specs.State.{next}
+use Rattle.reference.specs.Reference.{Reference, Told, told, exponentOf, joined, imageBytes, verdict, referenceStep, referenceStart}
 use Rattle.reference.specs.Run.{Asked, stepOn, referenceAfter, partsOf}
 use Rattle.reference.specs.Claims.{Touch, every, mayTouch, Alike, Framed, Frame}
 use Rattle.reference.proofs.Tests.{ifTest}
@@ -40,8 +39,9 @@ touched e = absurd (false≢true (sym e))
 abbrev Stays : Touch → Reference → List ℕ → Told → Type 0
 Stays t b own r = Framed t (partsOf b) own (next (r .answer) (partsOf (r .reference)) (r .own))
 
-keeps : (t : Touch) (b : Reference) (own : List ℕ) (a : Answer) → Stays t b own (told a b own)
-keeps t b own a =
+-- a call that leaves the board, and of its own buffer what it may not touch
+own-only : (t : Touch) (b : Reference) (own out : List ℕ) (a : Answer) → Alike (t .own) out own → Stays t b own (told a b out)
+own-only t b own out a k =
     record {
       header = λ e. refl;
       records = λ e. refl;
@@ -51,8 +51,11 @@ keeps t b own a =
       hooks = λ e. refl;
       used = alike _ _;
       cells = alike _ _;
-      own = alike _ _;
+      own = k;
     }
+
+keeps : (t : Touch) (b : Reference) (own : List ℕ) (a : Answer) → Stays t b own (told a b own)
+keeps t b own a = own-only t b own own a (alike (t .own) own)
 
 -- cells past those that are zeroed
 zeroed-alike : (n : ℕ) (cells : List ℕ) → n ≤ length cells → Alike (λ i. ltb i n) (zeroed n cells) cells
@@ -128,18 +131,7 @@ module _ (b : Reference) (s : Sound b) (own : List ℕ) where
       (λ e.
       ifTest (Stays (mayTouch b WriteImage own) b own) (eqb (length (b .records)) 0)
       (λ z. keeps (mayTouch b WriteImage own) b own _)
-      (λ z.
-      record {
-        header = λ t. refl;
-        records = λ t. refl;
-        offsets = λ t. refl;
-        registers = alike _ _;
-        list = λ t. refl;
-        hooks = λ t. refl;
-        used = alike _ _;
-        cells = alike _ _;
-        own = front-alike _ (imageBytes (b .records)) own image-length (ltb-false (length own) _ e);
-      }))
+      (λ z. own-only (mayTouch b WriteImage own) b own _ _ (front-alike _ (imageBytes (b .records)) own image-length (ltb-false (length own) _ e))))
 
   stays : (c : Call) → Stays (mayTouch b c own) b own (referenceStep b c own)
   unfolding referenceStep

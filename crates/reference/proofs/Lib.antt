@@ -6,3 +6,4 @@ pub mod Simulation
 pub mod Refinement
 pub mod Refusal
 pub mod Frame
+pub mod Cases

@@ -1,16 +1,15 @@
 -- Claim 1: a refused call changes nothing and gives a stated number and the filler.
-use Prim.Native.Nat.{ℕ, zero, suc, _+_}
+use Prim.Native.Nat.{ℕ, zero, suc}
 use native.Mathlib.Omega.{arith}
-use mathlib.Core.Bool.{Bool, true, false, not, cond, _||_, false≢true}
+use mathlib.Core.Bool.{true, false, not, cond, _||_, false≢true}
 use mathlib.Core.Logic.{_⊎_, inl, inr, ⊎-elim}
-use mathlib.Core.Path.{_≡_, refl, sym, _∙_, ap}
+use mathlib.Core.Path.{_≡_, refl}
 use mathlib.Core.List.{List, [], _∷_}
 use lib.Dec.{ltb, eqb}
-use lib.IntN.{ℤ, pos, negsuc}
+use lib.IntN.{pos}
 use borrow.Author.Tests.{ne-eqb, eqb-false}
-use lib.ListN.{length, getD, replicate}
+use lib.ListN.{length, getD}
 use Rattle.board.specs.Parts.{Parts}
-use Rattle.board.specs.Statuses.{successful, bufferTooSmall, deviceNotFound}
 use Rattle.board.specs.Layout.{functionsMax, windowsMax}
 use Rattle.board.specs.Handles.{functionCount}
 use Rattle.window_list.specs.Windows.{Window}
@@ -19,16 +18,14 @@ use Rattle.window_list.specs.Listing.{listing, numberOf, valuesOf}
 use Rattle.image.specs.Image.{trailerSize, imageSize}
 use Rattle.image.specs.Refusals.{Facts, imageMax, cellsMax, accepted, refused, badRecord, formRefusal, recordsVerdict, firstRefusal}
 use Rattle.image.specs.Check.{factsOf, checked}
-use Rattle.image.specs.Load.{Loaded, loaded, load, reset}
-use Rattle.image.specs.Load.{Reset as ResetDone}
+use Rattle.image.specs.Load.{ResetOutcome, loaded, load, reset}
 use Rattle.image.specs.Write.{Written, write}
 use Rattle.image.specs.declared.check.Verdict.{Verdict}
-use Rattle.reference.specs.declared.Answer.{Answer}
 use Rattle.reference.specs.declared.Call.{Call}
 use Rattle.reference.specs.declared.Call.the-variants.{Load, Reset, WriteImage, ListWindow}
 use Rattle.reference.specs.Answers.{answer, zeros, ofStatus, ofVerdict}
 use Rattle.reference.specs.State.{Next, next, step}
-use Rattle.reference.specs.Claims.{Among, refusals, Filler, Untouched, Refusal}
+use Rattle.reference.specs.Claims.{Among, refusals, Untouched, Refusal}
 use Rattle.reference.proofs.Tests.{ifTest}
 
 -- what the claim says of one outcome
@@ -97,7 +94,7 @@ pub refusal : Refusal
 unfolding step load reset write
 refusal p Load own = load-kept p _ own (checked own (length (p .cells))) (stated own (length (p .cells)))
 refusal p Reset own =
-    ifTest (λ (w : ResetDone). Kept p Reset own (next (ofStatus (w .status)) (w .parts) own))
+    ifTest (λ (w : ResetOutcome). Kept p Reset own (next (ofStatus (w .status)) (w .parts) own))
     (ltb (length (p .cells)) (getD (p .cellOffsets) windowsMax 0))
     (λ e f. record { number = inl refl; filler = refl; parts = refl; own = refl }) (λ e f. not-refused f)
 refusal p WriteImage own =

@@ -1,35 +1,28 @@
 -- The lent parts after a load or a reset are those of the reference machine's fresh board.
-use Prim.Native.Nat.{ℕ, zero, suc, _+_, _*_, _-_, _/_, _%_, _<_, _≤_, min}
+use Prim.Native.Nat.{ℕ, _+_, _*_, _-_, _/_, _%_, _<_, _≤_, min}
 use native.Mathlib.Omega.{arith}
 use native.Mathlib.Nat.{min-eq-left, min-le-left}
-use mathlib.Core.Bool.{Bool, true, false, cond}
 use mathlib.Core.Logic.{_⊎_, ⊎-elim}
-use mathlib.Core.Path.{_≡_, refl, sym, _∙_, ap}
-use mathlib.Core.List.{List, [], _∷_, _++_}
-use lib.Dec.{eqb}
-use lib.ListN.{length, getD, take, drop, replicate, length-take, length-drop}
-use lib.Seq.{length-take-le}
+use mathlib.Core.Path.{_≡_, refl, sym, _∙_}
+use mathlib.Core.List.{List, [], _∷_}
+use lib.ListN.{length, drop, replicate, length-take}
 use Rattle.board.specs.Numbers.{byteAt}
 use Rattle.board.specs.Tables.{tableFrom, table}
 use Rattle.board.specs.Parts.{parts}
-use Rattle.board.specs.Handles.{functionCount}
 use Rattle.board.specs.Layout.{functionsMax, bases, windowsMax, recordSize, entriesAt, entrySize, registersEach, hookSize, markSize, recordByte, exponent, registerByte}
-use Rattle.board.proofs.Tables.{table-get, table-same, table-constant}
+use Rattle.board.proofs.Tables.{table-get, table-same}
 use Rattle.window_list.specs.Windows.{listOf, windowList}
-use Rattle.window_list.specs.Kept.{keptList}
-use Rattle.window_list.specs.Meaning.{Watched}
 use Rattle.window_list.proofs.Meaning.{list-same}
-use Rattle.image.specs.Cells.{total, cellsBefore, offsetsOf, zeroed}
-use Rattle.image.specs.Image.{imageSize, countOf, recordsOf, recordAt, sum}
-use Rattle.image.specs.Refusals.{Facts, firstBad}
+use Rattle.image.specs.Cells.{total, cellsBefore, offsetsOf}
+use Rattle.image.specs.Image.{imageSize, countOf, recordsOf, recordAt}
 use Rattle.image.specs.Check.{factsOf, checked}
 use Rattle.image.specs.Load.{padded, registersOf, restarted, installed}
 use Rattle.image.proofs.Lists.{zeros-after}
 use Rattle.image.proofs.Ranges.{offset-at, before-same}
-use Rattle.image.proofs.Accepted.{Accepted}
-use Rattle.reference.specs.Reference.{Reference, recordOf, exponentOf, joined, fresh, imageRecords, imageFacts, verdict}
+use Rattle.image.proofs.Accepted.{Accepted, records-length}
+use Rattle.reference.specs.Reference.{recordOf, exponentOf, joined, fresh, imageRecords, imageFacts, verdict}
 use Rattle.reference.specs.Run.{numbers, lineByLine, filledUp, markNumber, partsOf}
-use Rattle.reference.proofs.Records.{Sized, joined-length, joined-byte, split-length, split-sized, split-joined, split-byte, split-record, bad-same}
+use Rattle.reference.proofs.Records.{Sized, joined-byte, split-length, split-sized, split-joined, split-byte, split-record, bad-same}
 
 -- the exponents of all slots are read alike
 pub offsets-same : (k k′ : ℕ → ℕ → ℕ) → ((i b : ℕ) → b < bases → k i b ≡ k′ i b) → offsetsOf k ≡ offsetsOf k′
@@ -122,10 +115,7 @@ pub record Whole (image : List ℕ) : Type 0 where
 pub whole : (image : List ℕ) (room : ℕ) → Accepted image room → Whole image
 whole image room a =
     let n = countOf image in
-    let l = drop (length image - imageSize n) image in
-    let e : length (recordsOf image) ≡ recordSize * n =
-    length-take-le (recordSize * n) l (rw (length-drop (length image - imageSize n) image) (omega (arith, a .fine .whole)))
-    in
+    let e = records-length image room a in
     record {
       few = rw (split-length n (recordsOf image)) (a .fine .few);
       sized = split-sized n (recordsOf image) (omega (arith, e));

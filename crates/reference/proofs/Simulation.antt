@@ -1,41 +1,35 @@
 -- One call: the program's step on the parts of a reference state is the reference machine's step.
-use Prim.Native.Nat.{ℕ, _+_, _*_, _-_, _<_, _≤_, min}
+use Prim.Native.Nat.{ℕ, _+_, _*_, _-_, _≤_, min}
 use native.Mathlib.Omega.{arith}
 use native.Mathlib.Nat.{min-eq-left}
-use mathlib.Core.Bool.{Bool, true, false, cond}
-use mathlib.Core.Path.{_≡_, refl, sym, _∙_, ap}
-use mathlib.Core.List.{List, [], _∷_, _++_}
+use mathlib.Core.Path.{_≡_, refl}
+use mathlib.Core.List.{List, []}
 use lib.Dec.{ltb, eqb}
 use lib.IntN.{pos}
-use lib.ListN.{length, getD, take, drop, replicate}
+use lib.ListN.{length, take, replicate}
 use lib.Seq.{take-at}
 use borrow.Author.Tests.{eqb-true}
-use Rattle.board.specs.Parts.{Parts}
 use Rattle.board.specs.Tables.{tableFrom}
 use Rattle.board.specs.Layout.{functionsMax, recordSize, registersEach, windowsMax}
 use Rattle.board.proofs.Tables.{table-constant}
-use Rattle.board.specs.Statuses.{successful, bufferTooSmall}
 use Rattle.window_list.specs.Windows.{gather, openWindows, putAll, listOf}
-use Rattle.window_list.specs.Kept.{keptList, unpacked}
-use Rattle.window_list.specs.Listing.{listing}
+use Rattle.window_list.specs.Kept.{keptList}
 use Rattle.window_list.proofs.KeptArray.{kept-of}
 use Rattle.window_list.proofs.Answers.{number-is, values-are}
 use Rattle.image.specs.Cells.{cellsBefore, total, offsetsOf, zeroed}
-use Rattle.image.specs.Image.{imageSize, countOf, imageOf, sum, trailer}
-use Rattle.image.specs.Load.{Loaded, padded, load, reset}
-use Rattle.image.specs.Load.{Reset as ResetDone}
+use Rattle.image.specs.Image.{imageSize, imageOf}
+use Rattle.image.specs.Load.{Loaded, ResetOutcome, padded, load, reset}
 use Rattle.image.specs.Write.{Written, write}
 use Rattle.image.proofs.Lists.{zeroed-length}
 use Rattle.image.proofs.Ranges.{offset-at}
-use Rattle.image.proofs.Accepted.{Accepted, accepted-image}
-use Rattle.reference.specs.declared.Answer.{Answer}
+use Rattle.image.proofs.Accepted.{accepted-image}
 use Rattle.reference.specs.declared.Call.{Call}
 use Rattle.reference.specs.declared.Call.the-variants.{Load, Reset, WriteImage, ListWindow}
 use Rattle.reference.specs.Answers.{answer, zeros, ofStatus, ofVerdict}
 use Rattle.reference.specs.State.{Next, next, step}
-use Rattle.reference.specs.Reference.{Reference, Told, told, exponentOf, joined, fresh, imageRecords, windowsOf, imageBytes, verdict, referenceStep, referenceStart}
+use Rattle.reference.specs.Reference.{Reference, Told, exponentOf, joined, fresh, imageRecords, windowsOf, imageBytes, verdict, referenceStep, referenceStart}
 use Rattle.reference.specs.Run.{partsOf, start}
-use Rattle.reference.proofs.Tests.{ifTest, ifBoth}
+use Rattle.reference.proofs.Tests.{ifBoth}
 use Rattle.reference.proofs.Records.{Sized, joined-length}
 use Rattle.reference.proofs.Same.{image-total, verdict-same, whole, installed-same, restart-same, no-hooks, no-marks}
 
@@ -81,7 +75,7 @@ module _ (b : Reference) (s : Sound b) where
   unfolding step referenceStep reset partsOf
   same-reset own =
       rw (offset-at (exponentOf (b .records)) windowsMax (omega arith))
-      (ifBoth (λ (w : ResetDone) t. Same (next (ofStatus (w .status)) (w .parts) own) t)
+      (ifBoth (λ (w : ResetOutcome) t. Same (next (ofStatus (w .status)) (w .parts) own) t)
       (ltb (length (b .cells)) (total (exponentOf (b .records))))
       (λ e. record { answer = refl; parts = refl; own = refl; sound = s })
       (λ e.

@@ -1,7 +1,7 @@
 -- Answers as numbers: rules on plain values, which the program's step and the reference machine share.
 use Prim.Native.Nat.{ℕ, zero, suc}
 use mathlib.Core.Bool.{Bool, true, false}
-use mathlib.Core.List.{List, [], _∷_}
+use mathlib.Core.List.{List, _∷_}
 use lib.IntN.{ℤ, pos, negsuc}
 use lib.ListN.{replicate}
 use Rattle.board.specs.declared.status.Status.{Status}

@@ -11,8 +11,9 @@ use Rattle.board.specs.Statuses.{successful, bufferTooSmall}
 use Rattle.window_list.specs.Windows.{Window, listOf}
 use Rattle.window_list.specs.Listing.{listedNumber, listedValues}
 use Rattle.image.specs.Cells.{total, zeroed}
-use Rattle.image.specs.Image.{imageSize, countOf, editionOf, distanceOf, sumOf, recordsOf, sum, trailer}
-use Rattle.image.specs.Refusals.{Facts, imageMax, refused, firstBad, firstRefusal}
+use Rattle.image.specs.Image.{imageSize, countOf, recordsOf, sum, trailer}
+use Rattle.image.specs.Refusals.{Facts, imageMax, refused, firstRefusal}
+use Rattle.image.specs.Check.{facts}
 use Rattle.image.specs.declared.check.Verdict.{Verdict}
 use Rattle.reference.specs.declared.Answer.{Answer}
 use Rattle.reference.specs.declared.Call.{Call}
@@ -79,19 +80,9 @@ split (suc n) l = take recordSize l ∷ split n (drop recordSize l)
 abbrev pub imageRecords : List ℕ → List (List ℕ)
 imageRecords image = split (countOf image) (recordsOf image)
 
--- what an image says of itself, its records taken one by one
+-- the verdict on an image, its records taken one by one
 abbrev pub imageFacts : List ℕ → Facts
-imageFacts image =
-    record {
-      length = length image;
-      edition = editionOf image;
-      count = countOf image;
-      distance = distanceOf image;
-      said = sumOf image;
-      sum = sum (recordsOf image);
-      bad = firstBad (recordOf (imageRecords image)) 0 (countOf image);
-      total = total (exponentOf (imageRecords image));
-    }
+imageFacts image = facts image (recordOf (imageRecords image)) (exponentOf (imageRecords image))
 
 unfoldable pub verdict : List ℕ → ℕ → Verdict
 verdict image room = cond (ltb imageMax (length image)) (refused 1) (firstRefusal (imageFacts image) room)

@@ -24,6 +24,9 @@ pub record Heard : Type 0 where
   pub answer : Answer
   pub own : List ℕ
 
+abbrev pub asked : Call → List ℕ → Asked
+asked c own = record { call = c; own = own }
+
 abbrev pub heard : Answer → List ℕ → Heard
 heard a own = record { answer = a; own = own }
 

@@ -7,9 +7,12 @@ pub enum Call {
     ListWindow { n: u32 },
 }
 
+// The values of an answer; those that it does not have are 0.
+pub type Values = [u64; 6];
+
 // What a call hands back: the number, whether it was refused, and the values.
 pub struct Answer {
     pub number: i32,
     pub refused: bool,
-    pub values: [u64; 6],
+    pub values: Values,
 }

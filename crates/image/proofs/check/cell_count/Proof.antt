@@ -1,7 +1,7 @@
 -- `cell_count`: outside 2..16 no cell, inside the power of two, which is at most 65,536.
-use native.Mathlib.Omega.{arith}
 use Prim.Native.Nat.{_^_, _≤_}
 use mathlib.Core.Path.{_≡_, _∙_}
+use native.Mathlib.Omega.{arith}
 use borrow.Author.Tests.{le-leb, lt-leb}
 use Rattle.record.proofs.Entries.{power-small, size-most}
 use borrow.Author.Needs.{needs}

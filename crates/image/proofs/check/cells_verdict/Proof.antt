@@ -1,6 +1,6 @@
 -- `cells_verdict`: the tests are the definition's, in its order.
-use native.Mathlib.Omega.{arith}
 use mathlib.Core.Path.{_∙_}
+use native.Mathlib.Omega.{arith}
 use borrow.Author.Tests.{lt-ltb, le-ltb}
 use Rattle.image.specs.Refusals.{cellsMax}
 use borrow.Author.Needs.{needs}

@@ -1,6 +1,6 @@
 -- `check_image`: the upper length first, then what `judge` says.
-use native.Mathlib.Omega.{arith}
 use mathlib.Core.Path.{_∙_}
+use native.Mathlib.Omega.{arith}
 use lib.ListN.{length}
 use borrow.Author.Tests.{lt-ltb, le-ltb}
 use Rattle.image.specs.Refusals.{imageMax}

@@ -1,6 +1,6 @@
 -- `form_refusal`: the tests are the definition's, in its order; passed, they tell that there are at most 16 records and that they fit.
-use native.Mathlib.Omega.{arith}
 use Prim.Native.Nat.{_+_, _*_}
+use native.Mathlib.Omega.{arith}
 use borrow.Author.Tests.{ne-eqb, eq-eqb, lt-ltb, le-ltb}
 use borrow.Author.Needs.{needs}
 use Rattle.image.proofs.check.form_refusal.Statement.{statement}

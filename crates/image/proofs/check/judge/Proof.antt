@@ -1,7 +1,7 @@
 -- `judge`: the trailer's numbers are read where the definition reads them; once they pass, the slice lent on is the records.
-use native.Mathlib.Omega.{arith}
 use Prim.Native.Nat.{_+_, _-_, _*_}
 use mathlib.Core.Path.{_≡_, _∙_}
+use native.Mathlib.Omega.{arith}
 use lib.ListN.{length}
 use borrow.Author.Tests.{eq-eqb, ne-eqb, lt-ltb}
 use Rattle.image.specs.Refusals.{firstRefusal}
@@ -43,7 +43,8 @@ returns-2 : tie.Need-returns-2
 unfolding firstRefusal
 returns-2 c =
     let d = c .before .before in
-    let form = rw (d .before .before .before .big-at .ensures, d .before .before .big-at2 .ensures, d .before .big-at3 .ensures) at (d .form-refusal .ensures .0) in
+    let b = d .before .before .before in
+    let form = rw (b .big-at .ensures, d .before .before .big-at2 .ensures, d .before .big-at3 .ensures) at (d .form-refusal .ensures .0) in
     c .plain2 .ensures ∙ simp (← form, ne-eqb _ _ (c .before .if2 .taken))
 
 cast-n : tie.Need-cast-n
@@ -98,7 +99,7 @@ returns-3 c =
     let long : l - (544 * n + 12) + 544 * n - (l - (544 * n + 12)) ≡ 544 * n = omega arith in
     let form = rw (b .big-at .ensures, d .before .before .big-at2 .ensures, d .before .big-at3 .ensures) at (d .form-refusal .ensures .0) in
     let rest = rw (long, b .big-at .ensures, c .before .before .big-at4 .ensures) at (c .records-verdict .ensures) in
-    rest ∙ simp (← form, eq-eqb _ _ (c .before .before .before .if2 .left))
+    simp (← form, eq-eqb _ _ (c .before .before .before .if2 .left)) rest
 
 pub judge-spec : {M : Type 1} → statement M
 judge-spec =

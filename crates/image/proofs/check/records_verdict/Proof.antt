@@ -1,6 +1,6 @@
 -- `records_verdict`: the tests are the definition's, in its order, of what the calls work out.
-use native.Mathlib.Omega.{arith}
 use mathlib.Core.Path.{_∙_}
+use native.Mathlib.Omega.{arith}
 use borrow.Author.Tests.{eq-eqb, ne-eqb, lt-ltb, le-ltb}
 use borrow.Author.Needs.{needs}
 use Rattle.image.proofs.check.records_verdict.Statement.{statement}

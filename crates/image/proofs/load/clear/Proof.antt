@@ -1,5 +1,6 @@
+-- `clear`: the first i cells are zero, the rest as they were.
 use Prim.Native.Nat.{_-_, _≤_}
-use mathlib.Core.Path.{_≡_, refl, sym, _∙_, ap}
+use mathlib.Core.Path.{_≡_, refl, _∙_, ap}
 use native.Mathlib.Numerals.{add-one}
 use lib.ListN.{length}
 use Rattle.image.specs.Cells.{zeroed}
@@ -8,8 +9,6 @@ use borrow.Author.Needs.{needs}
 use native.Mathlib.Omega.{arith}
 use Rattle.image.proofs.load.clear.Statement.{statement}
 use Rattle.image.proofs.load.clear.Tie as tie
-use Rattle.image.proofs.load.clear.Reads as reads
-use Rattle.image.proofs.load.clear.Lts as lts
 
 abbrev Inv-loop : tie.InvT-loop
 Inv-loop cells₀ n i₀ cells i = (i ≤ n) × (cells ≡ zeroed i cells₀)
@@ -17,11 +16,9 @@ Inv-loop cells₀ n i₀ cells i = (i ≤ n) × (cells ≡ zeroed i cells₀)
 abbrev μ-loop : tie.MeasureT-loop
 μ-loop cells₀ n i₀ cells i = n - i
 
--- src/load.rt:66:5
 loop-holds : tie.Need-loop-holds Inv-loop μ-loop
 loop-holds c = (omega arith, refl)
 
--- src/load.rt:67:9
 slice-write-cells : tie.Need-slice-write-cells Inv-loop μ-loop
 slice-write-cells c =
     let l = c .before .loop in
@@ -29,26 +26,21 @@ slice-write-cells c =
     let z = zeroed-length (l .i) (c .before .before .args .cells .now) (omega arith) in
     omega arith
 
--- src/load.rt:68:9
 add-i : tie.Need-add-i Inv-loop μ-loop
 add-i c = search needs
 
--- src/load.rt:66:5
 loop-less : tie.Need-loop-less Inv-loop μ-loop
 loop-less c = search needs
 
--- src/load.rt:66:5
 loop-again : tie.Need-loop-again Inv-loop μ-loop
 loop-again c =
     let l = c .before .loop in
     let m = zeroed-more (l .i) (c .before .before .args .cells .now) (omega arith) in
     (omega arith, rw (add-one (l .i), l .inv .1) m)
 
--- src/load.rt:61:1
 same-length : tie.Need-same-length Inv-loop μ-loop
 same-length c = ap length (c .before .loop .inv .1) ∙ zeroed-length (c .before .loop .i) (c .before .before .args .cells .now) (omega arith)
 
--- src/load.rt:61:1
 returns : tie.Need-returns Inv-loop μ-loop
 returns c =
     let l = c .before .loop in

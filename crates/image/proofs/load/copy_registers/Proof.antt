@@ -1,6 +1,6 @@
+-- `copy_registers`: the first j registers stand as the table says.
 use Prim.Native.Nat.{_-_, _*_, _/_, _%_, _≤_}
-use mathlib.Core.Path.{_≡_, refl, sym, _∙_, ap}
-use native.Mathlib.Numerals.{add-one}
+use mathlib.Core.Path.{_≡_, refl, sym, _∙_}
 use lib.ListN.{length, take, length-set}
 use Rattle.board.specs.Tables.{tableFrom, table}
 use Rattle.board.specs.Layout.{functionsMax, registersEach, recordByte}
@@ -10,9 +10,6 @@ use borrow.Author.Needs.{needs}
 use native.Mathlib.Omega.{arith}
 use Rattle.image.proofs.load.copy_registers.Statement.{statement}
 use Rattle.image.proofs.load.copy_registers.Tie as tie
-use Rattle.image.proofs.load.copy_registers.Reads as reads
-use Rattle.image.proofs.load.copy_registers.Lts as lts
-use Rattle.board.proofs.number.byte_at.Reads as byte-at-reads
 
 abbrev Inv-loop : tie.InvT-loop
 Inv-loop records registers₀ j₀ registers j =
@@ -23,46 +20,36 @@ Inv-loop records registers₀ j₀ registers j =
 abbrev μ-loop : tie.MeasureT-loop
 μ-loop records registers₀ j₀ registers j = functionsMax * registersEach - j
 
--- src/load.rt:39:5
 loop-holds : tie.Need-loop-holds Inv-loop μ-loop
 unfolding tableFrom
 loop-holds c = (omega arith, (c .before .before .pre, refl))
 
--- src/load.rt:40:41
 mul-byte-at : tie.Need-mul-byte-at Inv-loop μ-loop
 mul-byte-at c = search needs
 
--- src/load.rt:40:41
 add-byte-at : tie.Need-add-byte-at Inv-loop μ-loop
 add-byte-at c = search needs
 
--- src/load.rt:40:24
 byte-at-requires : tie.Need-byte-at-requires Inv-loop μ-loop
 byte-at-requires c κs = search needs
 
--- src/load.rt:40:9
 slice-write-registers : tie.Need-slice-write-registers Inv-loop μ-loop
 slice-write-registers c = search needs
 
--- src/load.rt:41:9
 add-j : tie.Need-add-j Inv-loop μ-loop
 add-j c = search needs
 
--- src/load.rt:39:5
 loop-less : tie.Need-loop-less Inv-loop μ-loop
 loop-less c = search needs
 
--- src/load.rt:39:5
 loop-again : tie.Need-loop-again Inv-loop μ-loop
 loop-again c =
     let l = c .before .before .loop in
     (omega (arith, l .inv .1 .0), (simp length-set (l .inv .1 .0), filled-more _ (l .j) _ (l .registers) (c .before .loop-test .taken) (c .byte-at .ensures) (l .inv .1 .1)))
 
--- src/load.rt:34:1
 same-length : tie.Need-same-length Inv-loop μ-loop
 same-length c = c .before .loop .inv .1 .0 ∙ sym (c .before .before .before .before .pre)
 
--- src/load.rt:34:1
 returns : tie.Need-returns Inv-loop μ-loop
 unfolding registersOf
 returns c =

@@ -1,47 +1,35 @@
+-- `load`: refused before anything is written; an accepted image is installed, and its cells fit.
 use native.Mathlib.Omega.{arith}
 use Rattle.board.specs.Layout.{windowsMax}
 use Rattle.image.proofs.Ranges.{offset-at, padded-total}
-use borrow.Author.Tests.{lt-ltb, le-ltb, ne-eqb, eq-eqb}
+use borrow.Author.Tests.{ne-eqb, eq-eqb}
 use Rattle.image.specs.Load.{load}
 use Rattle.image.proofs.Accepted.{accepted-image}
 use borrow.Author.Needs.{needs}
-use native.Mathlib.Omega.{arith}
-use borrow.Author.Needs.{needs}
 use Rattle.image.proofs.load.load.Statement.{statement}
 use Rattle.image.proofs.load.load.Tie as tie
-use Rattle.image.proofs.load.load.Reads as reads
-use Rattle.image.proofs.load.load.Lts as lts
-use Rattle.image.proofs.check.check_image.Reads as check-image-reads
-use Rattle.image.proofs.load.install.Reads as install-reads
-use Rattle.image.proofs.load.restart.Reads as restart-reads
 
--- src/load.rt:158:9
 check-image-requires : tie.Need-check-image-requires
 check-image-requires c κs = search needs
 
--- src/load.rt:160:9
 returns : tie.Need-returns
 unfolding load
 returns c = rw (← c .before .before .check-image .ensures, ne-eqb _ _ (c .if1 .taken))
 
--- src/load.rt:162:5
 install-requires : tie.Need-install-requires
 install-requires c κs =
     let a = accepted-image _ _ (rw (c .before .before .before .before .before .check-image .ensures) at (c .before .before .before .if1 .left)) in
     (a .fine .few, a .fine .whole)
 
--- src/load.rt:163:5
 restart-requires : tie.Need-restart-requires
 restart-requires c κs =
     let a = accepted-image _ _ (rw (c .before .before .before .before .before .before .before .before .before .before .before .before .before .before .check-image .ensures) at (c .before .before .before .before .before .before .before .before .before .before .before .before .if1 .left)) in
     let i = c .before .before .before .before .before .before .before .before .install .ensures in
     rw (i .offsets, offset-at _ windowsMax (omega arith), padded-total _) (a .fine .fits)
 
--- src/load.rt:145:1
 same-length : tie.Need-same-length
 same-length c = search needs
 
--- src/load.rt:145:1
 returns-2 : tie.Need-returns-2
 unfolding load
 returns-2 c =

@@ -1,15 +1,12 @@
-use Prim.Native.Nat.{_-_, _*_, _≤_}
-use mathlib.Core.Path.{_≡_, refl, sym, _∙_, ap}
+-- `place_cells`: the offsets of the first s slots stand, and t is where the next one begins.
+use Prim.Native.Nat.{_-_}
+use mathlib.Core.Path.{sym, _∙_}
 use lib.ListN.{length, length-set}
 use Rattle.board.specs.Layout.{windowsMax, exponent}
 use Rattle.image.proofs.Lists.{Placed, placed-none, placed-more, placed-all}
-use borrow.Author.Needs.{needs}
 use native.Mathlib.Omega.{arith}
 use Rattle.image.proofs.load.place_cells.Statement.{statement}
 use Rattle.image.proofs.load.place_cells.Tie as tie
-use Rattle.image.proofs.load.place_cells.Reads as reads
-use Rattle.image.proofs.load.place_cells.Lts as lts
-use Rattle.image.proofs.check.slot_cells.Reads as slot-cells-reads
 
 abbrev Inv-loop : tie.InvT-loop
 Inv-loop records offsets₀ t₀ s₀ offsets t s =
@@ -18,49 +15,38 @@ Inv-loop records offsets₀ t₀ s₀ offsets t s =
 abbrev μ-loop : tie.MeasureT-loop
 μ-loop records offsets₀ t₀ s₀ offsets t s = windowsMax - s
 
--- src/load.rt:52:5
 loop-holds : tie.Need-loop-holds Inv-loop μ-loop
 loop-holds c = placed-none _ _ (c .before .before .pre)
 
--- src/load.rt:53:9
 mul-offsets : tie.Need-mul-offsets Inv-loop μ-loop
 mul-offsets c = omega arith
 
--- src/load.rt:53:9
 slice-write-offsets : tie.Need-slice-write-offsets Inv-loop μ-loop
 slice-write-offsets c = omega (arith, c .before .loop .inv .size)
 
--- src/load.rt:54:14
 slot-cells-requires : tie.Need-slot-cells-requires Inv-loop μ-loop
 slot-cells-requires c κs = omega arith
 
--- src/load.rt:54:9
 add-t : tie.Need-add-t Inv-loop μ-loop
 add-t c = omega (arith, c .before .before .loop .inv .bound, c .before .before .loop .inv .few, c .slot-cells .ensures .1)
 
--- src/load.rt:55:9
 add-s : tie.Need-add-s Inv-loop μ-loop
 add-s c = omega (arith, c .before .before .loop .inv .few)
 
--- src/load.rt:52:5
 loop-less : tie.Need-loop-less Inv-loop μ-loop
 loop-less c = omega arith
 
--- src/load.rt:52:5
 loop-again : tie.Need-loop-again Inv-loop μ-loop
 loop-again c =
     let l = c .before .before .loop in
     placed-more _ (l .s) (l .t) _ (l .offsets) (c .before .loop-test .taken) (l .inv) (c .slot-cells .ensures .0) (c .slot-cells .ensures .1)
 
--- src/load.rt:57:5
 slice-write-offsets-2 : tie.Need-slice-write-offsets-2 Inv-loop μ-loop
 slice-write-offsets-2 c = omega (arith, c .before .loop .inv .size)
 
--- src/load.rt:46:1
 same-length : tie.Need-same-length Inv-loop μ-loop
 same-length c = simp length-set (c .before .loop .inv .size ∙ sym (c .before .before .before .before .pre))
 
--- src/load.rt:46:1
 returns : tie.Need-returns Inv-loop μ-loop
 returns c =
     let l = c .before .loop in

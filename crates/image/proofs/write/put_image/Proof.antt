@@ -1,3 +1,4 @@
+-- `put_image`: the records copied to the front, then the trailer after them.
 use Prim.Native.Nat.{_*_, _-_}
 use lib.ListN.{length, take, drop}
 use lib.Seq.{length-take-le}
@@ -6,68 +7,48 @@ use Rattle.board.specs.Tables.{tableFrom}
 use Rattle.image.specs.Image.{trailerSize}
 use Rattle.board.specs.Layout.{recordSize}
 use Rattle.image.proofs.Lists.{copied, image-put}
-use Prim.Native.Nat.{ℕ}
 use mathlib.Core.Path.{_≡_}
 use borrow.Author.Needs.{needs}
 use native.Mathlib.Omega.{arith}
-use borrow.Author.Needs.{needs}
 use Rattle.image.proofs.write.put_image.Statement.{statement}
 use Rattle.image.proofs.write.put_image.Tie as tie
-use Rattle.image.proofs.write.put_image.Reads as reads
-use Rattle.image.proofs.write.put_image.Lts as lts
-use Rattle.bytes.proofs.copy.Reads as copy-reads
-use Rattle.image.proofs.check.sum_of.Reads as sum-of-reads
-use Rattle.image.proofs.write.trailer.Reads as trailer-reads
 
--- src/write.rt:52:13
 mul-n : tie.Need-mul-n
 mul-n c = search needs
 
--- src/write.rt:53:10
 slice-aggregate-copy : tie.Need-slice-aggregate-copy
 slice-aggregate-copy c = sym (length-take-le _ _ (omega (arith, c .before .before .before .pre .1 .0)))
 
--- src/write.rt:53:5
 copy-requires : tie.Need-copy-requires
 copy-requires c κs = rw (length-take-le (recordSize * c .before .before .before .before .args .count) (c .before .before .before .before .args .records .now) (omega (arith, c .before .before .before .before .pre .1 .0))) (omega (arith, c .before .before .before .before .pre .1 .1))
 
--- src/write.rt:54:35
 slice-aggregate-sum-of : tie.Need-slice-aggregate-sum-of
 slice-aggregate-sum-of c = sym (length-take-le _ _ (omega (arith, c .before .before .before .before .before .before .before .before .pre .1 .0)))
 
--- src/write.rt:54:28
 sum-of-requires : tie.Need-sum-of-requires
 sum-of-requires c κs = rw (length-take-le (recordSize * c .before .before .before .before .before .before .before .before .args .count) (c .before .before .before .before .before .before .before .before .args .records .now) (omega (arith, c .before .before .before .before .before .before .before .before .pre .1 .0))) (omega arith)
 
--- src/write.rt:54:13
 trailer-requires : tie.Need-trailer-requires
 trailer-requires c κs = search needs
 
--- src/write.rt:55:10
 slice-aggregate-copy-2 : tie.Need-slice-aggregate-copy-2
 slice-aggregate-copy-2 c = search needs
 
--- src/write.rt:55:14
 sub-copy : tie.Need-sub-copy
 sub-copy c = search needs
 
--- src/write.rt:55:14
 part-copy-start : tie.Need-part-copy-start
 part-copy-start c = search needs
 
--- src/write.rt:55:14
 part-copy-end : tie.Need-part-copy-end
 part-copy-end c = search needs
 
--- src/write.rt:55:5
 copy-requires-2 : tie.Need-copy-requires-2
 copy-requires-2 c κs = search needs
 
--- src/write.rt:48:1
 same-length : tie.Need-same-length
 same-length c = search needs
 
--- src/write.rt:48:1
 returns : tie.Need-returns
 unfolding tableFrom
 returns c =

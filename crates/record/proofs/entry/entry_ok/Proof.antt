@@ -2,6 +2,7 @@
 use Prim.Native.Nat.{_^_, _≤_}
 use mathlib.Core.Bool.{true}
 use mathlib.Core.Path.{_≡_, sym, _∙_}
+use native.Mathlib.Omega.{arith}
 use borrow.Author.Tests.{eq-eqb, ne-eqb, not-true, not-false}
 use Rattle.record.specs.Record.{entryOk, formOk}
 use Rattle.record.proofs.Entries.{form-exponent, power-small, size-most, size-some}
@@ -14,7 +15,9 @@ empty-ok-requires c κs = search needs
 
 returns : tie.Need-returns
 unfolding entryOk
-returns c = c .empty-ok .ensures ∙ simp (eq-eqb _ _ (c .before .if1 .taken))
+returns c =
+    let e = c .before .before .before .args .e in
+    c .empty-ok .ensures ∙ simp (eq-eqb (e .exponent) 0 (omega arith))
 
 form-ok-requires : tie.Need-form-ok-requires
 form-ok-requires c κs = search needs

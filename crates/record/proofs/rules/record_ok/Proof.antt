@@ -29,9 +29,8 @@ returns c =
       c .before .before .rom-ok .ensures,
       c .before .before .before .masks-ok .ensures,
       c .before .before .before .before .identity-ok .ensures,
-      and-assoc,
-      and-assoc,
     )
+    (simp and-assoc)
 
 pub record-ok-spec : {M : Type 1} → statement M
 record-ok-spec =

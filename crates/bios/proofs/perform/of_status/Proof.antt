@@ -1,0 +1,15 @@
+-- `of_status`: the status is read back, and refuses where it is not 0.
+use mir.Syntax.{w32}
+use mir.Val.{SFits}
+use Rattle.bios.proofs.Signed.{back, bits-refuse}
+use Rattle.bios.proofs.perform.of_status.Statement.{statement}
+use Rattle.bios.proofs.perform.of_status.Tie as tie
+
+returns : tie.Need-returns
+returns c =
+    let z = c .before .before .before .args .status .0 in
+    let f : SFits w32 z = record { sfits = c .before .struct-told .given .0 .1 } in
+    rw (back z f, bits-refuse z f)
+
+pub of-status-spec : {M : Type 1} → statement M
+of-status-spec = tie.close (tie.spec returns)

@@ -1,0 +1,109 @@
+// Calls for C: numbers and lent memory in, numbers out. A slice is a pointer and a length, an array or a place for a number is a pointer.
+use crate::perform::of_listing;
+use board::layout::CellOffsets;
+use board::layout::Header;
+use board::layout::Hooks;
+use board::layout::Records;
+use board::layout::Registers;
+use board::layout::Used;
+use board::layout::Windows;
+use image::check::check_image;
+use image::load::load;
+use image::load::reset;
+use image::write::write_image;
+use reference::Values;
+use window_list::listing::list_window;
+ghost use mathlib.Core.Path.{_≡_};
+ghost use Rattle.board.specs.Parts.{parts};
+ghost use Rattle.window_list.specs.Kept.{unpacked};
+ghost use Rattle.image.specs.Check.{checked};
+ghost use Rattle.image.specs.Load.{loaded, load, resetTo, reset};
+ghost use Rattle.image.specs.Write.{written, write};
+ghost use Rattle.bios.specs.Exports.{verdict, status, shown, shownWindow};
+
+// The number of the first refusal of an image with so many cells, 0 for none; the place of a bad record, else 0, goes to `place`.
+#[no_mangle]
+pub extern "C" fn pci_check_image(image: &[u8], room: usize, place: &mut u32) -> u32
+    ensures { λ r. ⌜ verdict r (now (place .exit)) ≡ checked (now (image .entry)) room ⌝ }
+{
+    let v = check_image(image, room);
+    *place = v.place;
+    v.number as u32
+}
+
+// Loads an image; number and place as above.
+#[no_mangle]
+pub extern "C" fn pci_load(
+    image: &[u8],
+    header: &mut Header,
+    records: &mut Records,
+    registers: &mut Registers,
+    windows: &mut Windows,
+    offsets: &mut CellOffsets,
+    hooks: &mut Hooks,
+    used: &mut Used,
+    cells: &mut [u8],
+    place: &mut u32,
+) -> u32
+    ensures { λ r. ⌜ loaded (verdict r (now (place .exit))) (parts (now (header .exit)) (now (records .exit)) (now (registers .exit)) (now (windows .exit)) (now (offsets .exit)) (now (hooks .exit)) (now (used .exit)) (now (cells .exit))) ≡ load (parts (now (header .entry)) (now (records .entry)) (now (registers .entry)) (now (windows .entry)) (now (offsets .entry)) (now (hooks .entry)) (now (used .entry)) (now (cells .entry))) (now (image .entry)) ⌝ }
+{
+    let v = load(
+        image,
+        header,
+        records,
+        registers,
+        windows,
+        offsets,
+        hooks,
+        used,
+        cells,
+    );
+    *place = v.place;
+    v.number as u32
+}
+
+// Resets a board.
+#[no_mangle]
+pub extern "C" fn pci_reset(
+    header: &Header,
+    records: &Records,
+    offsets: &CellOffsets,
+    registers: &mut Registers,
+    windows: &mut Windows,
+    hooks: &mut Hooks,
+    used: &mut Used,
+    cells: &mut [u8],
+) -> i32
+    ensures { λ r. ⌜ resetTo (status r) (parts (now (header .entry)) (now (records .entry)) (now (registers .exit)) (now (windows .exit)) (now (offsets .entry)) (now (hooks .exit)) (now (used .exit)) (now (cells .exit))) ≡ reset (parts (now (header .entry)) (now (records .entry)) (now (registers .entry)) (now (windows .entry)) (now (offsets .entry)) (now (hooks .entry)) (now (used .entry)) (now (cells .entry))) ⌝ }
+{
+    let s = reset(
+        header,
+        records,
+        offsets,
+        registers,
+        windows,
+        hooks,
+        used,
+        cells,
+    );
+    s.number()
+}
+
+// Writes the loaded board as an image; the number of the refusal, 0 for none.
+#[no_mangle]
+pub extern "C" fn pci_write_image(header: &Header, records: &Records, out: &mut [u8]) -> u32
+    ensures { λ r. ⌜ written r (now (out .exit)) ≡ write (now (header .entry)) (now (records .entry)) (now (out .entry)) ⌝ }
+{
+    write_image(header, records, out) as u32
+}
+
+// Window n of the list, from 0: its number, and its values or zeros.
+#[no_mangle]
+pub extern "C" fn pci_list_window(windows: &Windows, n: u32, values: &mut Values) -> i32
+    ensures { λ r. ⌜ shown r (now (values .exit)) ≡ shownWindow (unpacked (now (windows .entry))) n ⌝ }
+{
+    let a = of_listing(list_window(windows, n));
+    let v = a.values;
+    *values = v;
+    a.number
+}

@@ -1,0 +1,64 @@
+//! `differential RUNS [SEED] [--tally]`: the proved code against `second`, on a sweep and random runs.
+#![deny(unsafe_op_in_unsafe_fn)]
+
+mod alter;
+mod boards;
+mod calls;
+mod damage;
+mod guards;
+mod model;
+mod parts;
+mod proved;
+mod random;
+mod runs;
+mod sweep;
+mod tally;
+
+use std::process::ExitCode;
+use tally::Tally;
+
+fn main() -> ExitCode {
+    let (flags, numbers): (Vec<_>, Vec<_>) =
+        std::env::args().skip(1).partition(|argument| argument.starts_with('-'));
+    let numbers: Option<Vec<u64>> = numbers.iter().map(|number| number.parse().ok()).collect();
+    let (runs, seed) = match numbers.as_deref() {
+        Some([runs]) => (*runs, 1),
+        Some([runs, seed]) => (*runs, *seed),
+        _ => return usage(),
+    };
+    if flags.iter().any(|flag| flag != "--tally") {
+        return usage();
+    }
+    let mut tally = Tally::default();
+    let outcome = compared(runs, seed, &mut tally);
+    if !flags.is_empty() {
+        tally.print();
+    }
+    match outcome {
+        Ok(()) => {
+            println!("differential: {runs} runs, {} calls, equal", tally.calls);
+            ExitCode::SUCCESS
+        }
+        Err(fault) => {
+            println!("differential: {fault}");
+            ExitCode::FAILURE
+        }
+    }
+}
+
+/// Performs the sweep, then the runs of as many seeds from the first on.
+fn compared(runs: u64, seed: u64, tally: &mut Tally) -> Result<(), String> {
+    sweep::sweep(tally)?;
+    for run in 0..runs {
+        runs::run(seed.wrapping_add(run), tally)?;
+    }
+    match tally.missing() {
+        missing if missing.is_empty() => Ok(()),
+        missing => Err(format!("these never came up: {}", missing.join(", "))),
+    }
+}
+
+fn usage() -> ExitCode {
+    eprintln!("usage: differential RUNS [SEED] [--tally]");
+    ExitCode::from(2)
+}

@@ -1,0 +1,116 @@
+//! The lent arrays of a board: their form in `second`, and the first difference of two.
+
+use second::{Board, Hook, KeptWindow, Used, FUNCTIONS, RECORD_LENGTH, WINDOWS};
+use std::fmt::LowerHex;
+
+pub const REGISTERS: usize = 256;
+
+pub type Header = [u32; 4];
+pub type Records = [u8; FUNCTIONS * RECORD_LENGTH];
+pub type Registers = [u8; FUNCTIONS * REGISTERS];
+pub type Windows = [u64; WINDOWS];
+pub type CellOffsets = [u32; WINDOWS + 1];
+pub type Hooks = [u32; 3 * FUNCTIONS];
+pub type UsedMarks = [u32; 2 * FUNCTIONS];
+
+#[derive(Clone)]
+pub struct Parts {
+    pub header: Header,
+    pub records: Records,
+    pub registers: Registers,
+    pub windows: Windows,
+    pub cell_offsets: CellOffsets,
+    pub hooks: Hooks,
+    pub used: UsedMarks,
+}
+
+impl Parts {
+    /// The parts of a board: the header has its count and zeros.
+    pub fn of(board: &Board) -> Self {
+        let mut parts = Parts {
+            header: [board.count, 0, 0, 0],
+            records: [0; FUNCTIONS * RECORD_LENGTH],
+            registers: [0; FUNCTIONS * REGISTERS],
+            windows: board.list.map(packed),
+            cell_offsets: board.cell_offsets,
+            hooks: [0; 3 * FUNCTIONS],
+            used: [0; 2 * FUNCTIONS],
+        };
+        parts.records.copy_from_slice(board.records.as_flattened());
+        parts.registers.copy_from_slice(board.registers.as_flattened());
+        let hooks = board.hooks.map(|hook| [hook.handle, hook.handler, hook.parameter]);
+        parts.hooks.copy_from_slice(hooks.as_flattened());
+        let used = board.used.map(|used| [used.status, used.call_back]);
+        parts.used.copy_from_slice(used.as_flattened());
+        parts
+    }
+
+    /// The board of these parts. The rest of the header and the bits above a kept
+    /// window's fields have no place in it.
+    pub fn board(&self) -> Board {
+        let mut board = Board::new();
+        board.count = self.header[0];
+        board.records.as_flattened_mut().copy_from_slice(&self.records);
+        board.registers.as_flattened_mut().copy_from_slice(&self.registers);
+        board.list = self.windows.map(unpacked);
+        board.cell_offsets = self.cell_offsets;
+        for (hook, numbers) in board.hooks.iter_mut().zip(self.hooks.chunks(3)) {
+            *hook = Hook { handle: numbers[0], handler: numbers[1], parameter: numbers[2] };
+        }
+        for (used, numbers) in board.used.iter_mut().zip(self.used.chunks(2)) {
+            *used = Used { status: numbers[0], call_back: numbers[1] };
+        }
+        board
+    }
+
+    /// The first place where these parts, the proved code's, differ from `second`'s.
+    pub fn first_difference(&self, second: &Parts) -> Option<String> {
+        first_difference("header", &self.header, &second.header)
+            .or_else(|| first_difference("records", &self.records, &second.records))
+            .or_else(|| first_difference("registers", &self.registers, &second.registers))
+            .or_else(|| first_difference("windows", &self.windows, &second.windows))
+            .or_else(|| first_difference("cell_offsets", &self.cell_offsets, &second.cell_offsets))
+            .or_else(|| first_difference("hooks", &self.hooks, &second.hooks))
+            .or_else(|| first_difference("used", &self.used, &second.used))
+    }
+}
+
+/// The first place where an array of the proved code's differs from `second`'s.
+pub fn first_difference<T: PartialEq + LowerHex>(
+    name: &str,
+    proved: &[T],
+    second: &[T],
+) -> Option<String> {
+    if proved == second {
+        return None;
+    }
+    let mut pairs = proved.iter().zip(second).enumerate();
+    let found = pairs.find(|(_, (ours, theirs))| ours != theirs);
+    Some(match found {
+        Some((at, (ours, theirs))) => {
+            format!("{name}[{at}]: proved {ours:#x}, second {theirs:#x}")
+        }
+        None => format!("{name}: proved {} long, second {}", proved.len(), second.len()),
+    })
+}
+
+/// A kept window as one number: space, start, handle, base, length, contested.
+fn packed(window: KeptWindow) -> u64 {
+    u64::from(window.io) << 58
+        | u64::from(window.start) << 26
+        | u64::from(window.handle & 0x1F) << 21
+        | u64::from(window.base & 7) << 18
+        | u64::from(window.length & 0x1_FFFF) << 1
+        | u64::from(window.contested)
+}
+
+fn unpacked(number: u64) -> KeptWindow {
+    KeptWindow {
+        io: number >> 58 & 1 == 1,
+        start: (number >> 26) as u32,
+        length: (number >> 1) as u32 & 0x1_FFFF,
+        handle: (number >> 21) as u32 & 0x1F,
+        base: (number >> 18) as u32 & 7,
+        contested: number & 1 == 1,
+    }
+}

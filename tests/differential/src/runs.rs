@@ -1,0 +1,185 @@
+//! One seeded run: random calls on one board and one cell buffer, compared after each.
+
+use crate::alter::{alter, use_board};
+use crate::boards::RandomBoard;
+use crate::calls::Call;
+use crate::damage::damaged;
+use crate::model::Second;
+use crate::parts::{first_difference, Parts};
+use crate::proved::Proved;
+use crate::random::Random;
+use crate::tally::Tally;
+use second::{RECORD_LENGTH, TRAILER_LENGTH};
+
+struct Run<'a> {
+    random: Random,
+    boards: Vec<RandomBoard>,
+    proved: Proved,
+    second: Second,
+    /// The image that was written last.
+    written: Vec<u8>,
+    tally: &'a mut Tally,
+    calls: usize,
+}
+
+/// Performs the run of a seed; a difference is told with the call that made it.
+pub fn run(seed: u64, tally: &mut Tally) -> Result<(), String> {
+    let mut run = Run::new(seed, tally);
+    for _ in 0..run.random.within(10..=50) {
+        run.step().map_err(|difference| format!("seed {seed}, {difference}"))?;
+    }
+    Ok(())
+}
+
+impl<'a> Run<'a> {
+    fn new(seed: u64, tally: &'a mut Tally) -> Self {
+        let mut random = Random::new(seed);
+        let boards: Vec<_> = (0..3).map(|_| RandomBoard::new(&mut random)).collect();
+        let length = cell_buffer_length(&mut random, boards[0].cells());
+        let second = Second::new(random.bytes(length));
+        let proved = Proved::new(&second.parts, &second.cells);
+        Run { random, boards, proved, second, written: Vec::new(), tally, calls: 0 }
+    }
+
+    fn step(&mut self) -> Result<(), String> {
+        match self.random.below(20) {
+            0..=5 => self.load(),
+            6..=8 => self.reset(),
+            9..=11 => self.write_image(),
+            12 => self.list_all(),
+            13 => self.list_some(),
+            14 | 15 => self.check_image(),
+            16 => self.change_cells(),
+            17 | 18 => self.change_parts(use_board),
+            _ => {
+                let cells = self.second.cells.len();
+                self.change_parts(|random, parts| alter(random, parts, cells))
+            }
+        }
+    }
+
+    /// Performs a call in both implementations and compares all that it leaves.
+    fn call(&mut self, call: Call) -> Result<(), String> {
+        self.calls += 1;
+        let expected = self.second.perform(&call);
+        let outcome = self.proved.perform(&call).and_then(|answer| {
+            let difference = answer
+                .first_difference(&expected)
+                .or_else(|| self.proved.parts().first_difference(&self.second.parts))
+                .or_else(|| first_difference("cells", self.proved.cells(), &self.second.cells));
+            difference.map_or(Ok(()), Err)
+        });
+        self.tally.count(&call, &expected);
+        if let (Call::WriteImage { .. }, 0) = (&call, expected.number) {
+            self.written = expected.out;
+            self.written.truncate(self.image_length());
+        }
+        outcome.map_err(|difference| format!("call {} ({call}): {difference}", self.calls))
+    }
+
+    fn load(&mut self) -> Result<(), String> {
+        let (image, cells) = self.image();
+        let whole = self.second.cells.len();
+        let lent = self.lent(whole, cells);
+        self.call(Call::Load { image, lent })
+    }
+
+    fn reset(&mut self) -> Result<(), String> {
+        let total = *self.second.parts.cell_offsets.last().unwrap_or(&0);
+        let lent = self.lent(self.second.cells.len(), total as usize);
+        self.call(Call::Reset { lent })
+    }
+
+    fn write_image(&mut self) -> Result<(), String> {
+        let fits = self.image_length();
+        let any = self.random.below(fits + 2000);
+        let length = self.random.pick(&[0, 11, 12, fits - 1, fits, fits, fits + 1, any]);
+        let out = self.random.bytes(length);
+        self.call(Call::WriteImage { out })
+    }
+
+    /// Lists every window, the place after the last, the next, and the last of all.
+    fn list_all(&mut self) -> Result<(), String> {
+        let ended = |number: &u64| number >> 1 & 0x1_FFFF == 0;
+        let windows = &self.second.parts.windows;
+        let end = windows.iter().position(ended).unwrap_or(windows.len()) as u32;
+        for n in (0..=end + 1).chain([u32::MAX]) {
+            self.call(Call::ListWindow { n })?;
+        }
+        Ok(())
+    }
+
+    fn list_some(&mut self) -> Result<(), String> {
+        let any = self.random.long();
+        let n = self.random.pick(&[0, 1, 2, 95, 96, 97, 256, 0x1_0000, 0x8000_0000, any]);
+        self.call(Call::ListWindow { n })
+    }
+
+    fn check_image(&mut self) -> Result<(), String> {
+        let (image, cells) = self.image();
+        let any = self.random.below(70_000);
+        let room = match self.random.one_in(2) {
+            true => self.random.pick(&[0, 65_535, 65_536, 65_537, 1 << 32, usize::MAX, any]),
+            false => self.lent(usize::MAX, cells),
+        };
+        self.call(Call::CheckImage { image, room })
+    }
+
+    /// Writes cells as data calls do, and others too.
+    fn change_cells(&mut self) -> Result<(), String> {
+        self.random.fill(&mut self.second.cells);
+        self.proved.lend_cells(&self.second.cells);
+        Ok(())
+    }
+
+    fn change_parts(&mut self, change: impl Fn(&mut Random, &mut Parts)) -> Result<(), String> {
+        change(&mut self.random, &mut self.second.parts);
+        self.proved.lend(&self.second.parts);
+        Ok(())
+    }
+
+    /// An image to load, with the cells that the board it came from needs.
+    fn image(&mut self) -> (Vec<u8>, usize) {
+        let board = &self.boards[self.random.below(self.boards.len())];
+        let image = match self.random.below(20) {
+            0..=8 => board.image(),
+            9..=17 => damaged(&mut self.random, board),
+            18 => self.written.clone(),
+            _ => {
+                let length = self.random.below(40);
+                self.random.bytes(length)
+            }
+        };
+        (image, board.cells())
+    }
+
+    /// How much to lend: all, just enough for so many cells, one less, or any part.
+    fn lent(&mut self, whole: usize, cells: usize) -> usize {
+        let any = self.random.below(whole);
+        let lent = match self.random.below(12) {
+            0 => cells,
+            1 => cells.saturating_sub(1),
+            2 => any,
+            _ => whole,
+        };
+        lent.min(whole)
+    }
+
+    /// The length of the image that the writer writes.
+    fn image_length(&self) -> usize {
+        RECORD_LENGTH * self.second.parts.board().functions() + TRAILER_LENGTH
+    }
+}
+
+/// None, just enough for so many cells, one less, about the limit, or any length.
+fn cell_buffer_length(random: &mut Random, cells: usize) -> usize {
+    let any = random.below(65_536);
+    match random.below(10) {
+        0 => 0,
+        1 | 2 => cells.min(65_536),
+        3 => cells.saturating_sub(1),
+        4..=6 => 65_536,
+        7 => 65_537 + any / 16,
+        _ => any,
+    }
+}

@@ -1,0 +1,109 @@
+//! Image checks of B1 with every value of every byte, window shape and trailer field.
+
+use crate::calls::Call;
+use crate::model::Second;
+use crate::proved::Proved;
+use crate::tally::Tally;
+use second::board_b1::{b1_image, b1_records, image_of, set_window, Shape};
+use second::{RECORD_LENGTH, TRAILER_LENGTH};
+
+pub fn sweep(tally: &mut Tally) -> Result<(), String> {
+    let mut checks = Checks::new(tally);
+    record_bytes(&mut checks)?;
+    shapes(&mut checks)?;
+    trailers(&mut checks)?;
+    lengths(&mut checks)
+}
+
+/// Both implementations, before the first load.
+struct Checks<'a> {
+    proved: Proved,
+    second: Second,
+    tally: &'a mut Tally,
+}
+
+impl<'a> Checks<'a> {
+    fn new(tally: &'a mut Tally) -> Self {
+        let second = Second::new(Vec::new());
+        let proved = Proved::new(&second.parts, &second.cells);
+        Checks { proved, second, tally }
+    }
+
+    fn check(&mut self, image: Vec<u8>, what: impl Fn() -> String) -> Result<(), String> {
+        let call = Call::CheckImage { image, room: 65_536 };
+        let expected = self.second.perform(&call);
+        self.tally.count(&call, &expected);
+        let outcome = self.proved.perform(&call).and_then(|answer| {
+            let difference = answer.first_difference(&expected);
+            difference.map_or(Ok(()), Err)
+        });
+        outcome.map_err(|difference| format!("B1 with {}: {difference}", what()))
+    }
+}
+
+/// One byte of the second record, with the sum put right.
+fn record_bytes(checks: &mut Checks) -> Result<(), String> {
+    let mut records = b1_records();
+    for at in 0..RECORD_LENGTH {
+        let before = records[1][at];
+        for value in 0..=255 {
+            records[1][at] = value;
+            checks.check(image_of(&records), || format!("byte {at} of record 1 {value:#x}"))?;
+        }
+        records[1][at] = before;
+    }
+    Ok(())
+}
+
+/// One window of every exponent, in both spaces, with one more bit or none.
+fn shapes(checks: &mut Checks) -> Result<(), String> {
+    for k in 0..=255 {
+        for bits in 0..=65u64 {
+            let (io, more) = (bits % 2, bits / 2);
+            let register = (0x8000_0000 | io | 1 << more) as u32;
+            let mut records = b1_records();
+            set_window(&mut records[0], 5, Shape { register, k, order: 2, widths: 4 });
+            let what = || format!("base 5 of record 0 {register:#x}, k {k}");
+            checks.check(image_of(&records), what)?;
+        }
+    }
+    Ok(())
+}
+
+/// Every edition and count, counts with the distance that belongs to them, distances.
+fn trailers(checks: &mut Checks) -> Result<(), String> {
+    for number in 0..=0xFFFFu16 {
+        let what = |field| move || format!("{field} {number}");
+        checks.check(with_trailer(6, &number.to_be_bytes()), what("edition"))?;
+        checks.check(with_trailer(4, &number.to_be_bytes()), what("count"))?;
+        let distance = RECORD_LENGTH as u32 * u32::from(number) + TRAILER_LENGTH as u32;
+        let mut fields = distance.to_be_bytes().to_vec();
+        fields.extend(number.to_be_bytes());
+        checks.check(with_trailer(0, &fields), what("count and distance of"))?;
+        checks.check(with_trailer(2, &number.to_be_bytes()), what("low distance"))?;
+        checks.check(with_trailer(0, &number.to_be_bytes()), what("high distance"))?;
+        checks.check(with_trailer(10, &number.to_be_bytes()), what("low sum"))?;
+        checks.check(with_trailer(8, &number.to_be_bytes()), what("high sum"))?;
+    }
+    Ok(())
+}
+
+/// B1's image with bytes of its trailer set, from the given one on.
+fn with_trailer(at: usize, bytes: &[u8]) -> Vec<u8> {
+    let mut image = b1_image();
+    let first = image.len() - TRAILER_LENGTH + at;
+    image[first..first + bytes.len()].copy_from_slice(bytes);
+    image
+}
+
+/// Every length of the image, from its beginning and from its end.
+fn lengths(checks: &mut Checks) -> Result<(), String> {
+    let image = b1_image();
+    for length in 0..=image.len() {
+        let last = image[image.len() - length..].to_vec();
+        checks.check(last, || format!("its last {length} bytes alone"))?;
+        let first = image[..length].to_vec();
+        checks.check(first, || format!("its first {length} bytes alone"))?;
+    }
+    Ok(())
+}

@@ -1,0 +1,60 @@
+//! Configuration reads and writes.
+
+use crate::board::Board;
+use crate::bytes::little;
+use crate::number::{
+    fast_answer, plain_answer, Width, BAD_HANDLE, BAD_REGISTER_NUMBER, SUCCESSFUL,
+};
+use crate::record::{BASES, COMMAND, FIRST_BASE, MASKS};
+
+impl Board {
+    /// The number and the value.
+    pub fn read_config(&self, handle: u32, register: u8, width: Width) -> (i32, u32) {
+        plain_answer(self.config_value(handle, register, width))
+    }
+
+    /// The value and the fault flag.
+    pub fn fast_read_config(&self, handle: u32, register: u8, width: Width) -> (u32, bool) {
+        fast_answer(self.config_value(handle, register, width), width)
+    }
+
+    /// Writes the low bytes of the value where the masks allow it.
+    pub fn write_config(&mut self, handle: u32, register: u8, width: Width, value: u32) -> i32 {
+        let (place, first) = match self.config_place(handle, register, width) {
+            Ok(found) => found,
+            Err(number) => return number,
+        };
+        let masks = &self.records[place][MASKS + first..];
+        let registers = &mut self.registers[place][first..];
+        let bytes = value.to_le_bytes();
+        for ((kept, mask), byte) in registers.iter_mut().zip(masks).zip(bytes).take(width.bytes()) {
+            *kept = *kept & !mask | byte & mask;
+        }
+        if moves_windows(first, width) {
+            self.refresh();
+        }
+        SUCCESSFUL
+    }
+
+    fn config_value(&self, handle: u32, register: u8, width: Width) -> Result<u32, i32> {
+        let (place, first) = self.config_place(handle, register, width)?;
+        Ok(little(&self.registers[place], first, width.bytes()))
+    }
+
+    /// The function's place and the first register byte, after the checks.
+    fn config_place(&self, handle: u32, register: u8, width: Width) -> Result<(usize, usize), i32> {
+        let place = self.place(handle).ok_or(BAD_HANDLE)?;
+        let first = usize::from(register);
+        if first % width.bytes() != 0 {
+            return Err(BAD_REGISTER_NUMBER);
+        }
+        Ok((place, first))
+    }
+}
+
+/// Whether an access addresses the command byte or a base register.
+fn moves_windows(first: usize, width: Width) -> bool {
+    let end = first + width.bytes();
+    let touches = |from, to| first < to && from < end;
+    touches(COMMAND, COMMAND + 1) || touches(FIRST_BASE, FIRST_BASE + 4 * BASES)
+}

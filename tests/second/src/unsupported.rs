@@ -1,0 +1,18 @@
+//! The three calls that are never supported, whatever they are given.
+
+use crate::board::Board;
+use crate::number::FUNC_NOT_SUPPORTED;
+
+impl Board {
+    pub fn special_cycle(&self, _bus: u8, _data: u32) -> i32 {
+        FUNC_NOT_SUPPORTED
+    }
+
+    pub fn get_routing(&self, _handle: u32) -> i32 {
+        FUNC_NOT_SUPPORTED
+    }
+
+    pub fn set_interrupt(&self, _handle: u32) -> i32 {
+        FUNC_NOT_SUPPORTED
+    }
+}
