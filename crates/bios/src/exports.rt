@@ -67,9 +67,9 @@ pub extern "C" fn pci_load(
 pub extern "C" fn pci_reset(
     header: &Header,
     records: &Records,
-    offsets: &CellOffsets,
     registers: &mut Registers,
     windows: &mut Windows,
+    offsets: &CellOffsets,
     hooks: &mut Hooks,
     used: &mut Used,
     cells: &mut [u8],
@@ -79,9 +79,9 @@ pub extern "C" fn pci_reset(
     let s = reset(
         header,
         records,
-        offsets,
         registers,
         windows,
+        offsets,
         hooks,
         used,
         cells,

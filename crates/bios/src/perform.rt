@@ -135,9 +135,9 @@ pub fn perform(
             of_status(reset(
                 header,
                 records,
-                offsets,
                 registers,
                 windows,
+                offsets,
                 hooks,
                 used,
                 cells,

@@ -36,6 +36,11 @@ pub const COMMAND: u8 = 0x04;
 
 pub const BASE_0: u8 = 0x10;
 
+// Numbers of a hook and of a used mark.
+pub const HOOK: usize = 3;
+
+pub const MARK: usize = 2;
+
 // The count of functions, above 16 read as 16; the other numbers have no meaning yet.
 pub type Header = [u32; 4];
 
@@ -52,10 +57,10 @@ pub type Windows = [u64; WINDOWS];
 pub type CellOffsets = [u32; WINDOWS + 1];
 
 // Handle, handler and parameter of each hook; zeros after the last.
-pub type Hooks = [u32; 3 * FUNCTIONS];
+pub type Hooks = [u32; HOOK * FUNCTIONS];
 
 // Used status and call-back address of each function.
-pub type Used = [u32; 2 * FUNCTIONS];
+pub type Used = [u32; MARK * FUNCTIONS];
 
 // A byte of the record of the function at a place, from 0.
 pub fn record_byte(records: &Records, function: u32, at: u32) -> u8

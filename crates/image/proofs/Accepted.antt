@@ -1,5 +1,5 @@
 -- What is known of an accepted image, and that nothing else is asked of it.
-use Prim.Native.Nat.{ℕ, zero, suc, _*_, _-_, _<_, _≤_}
+use Prim.Native.Nat.{ℕ, _*_, _-_, _<_, _≤_}
 use native.Mathlib.Omega.{arith}
 use mathlib.Core.Bool.{Bool, true, false, not, cond, _||_}
 use mathlib.Core.Path.{_≡_, refl, sym, _∙_}
@@ -11,7 +11,8 @@ use borrow.Author.Tests.{eq-eqb, ne-eqb, le-ltb, ltb-false, eqb-true, eqb-false,
 use Rattle.board.specs.Layout.{functionsMax, recordSize}
 use Rattle.board.proofs.Tests.{either-false}
 use Rattle.image.specs.Image.{trailerSize, imageSize, countOf, recordsOf}
-use Rattle.image.specs.Refusals.{Facts, imageMax, cellsMax, accepted, refused, badRecord, formRefusal, recordsVerdict, cellsVerdict, firstRefusal}
+use Rattle.image.specs.Refusals.{Facts, imageMax, cellsMax, accepted, refused, badRecord, firstRefusal}
+use Rattle.image.specs.Steps.{formRefusal, recordsVerdict, cellsVerdict}
 use Rattle.image.specs.Check.{factsOf, checked}
 use Rattle.image.specs.declared.check.Verdict.{Verdict}
 
@@ -32,33 +33,18 @@ passed : (t : Bool) (n : ℕ) (v w : Verdict) → v .number ≡ n → (n ≡ 0 �
 passed true n v w h z e = absurd (z (sym h ∙ e))
 passed false n v w h z e = (refl, e)
 
-formed : (t : Bool) (n m : ℕ) → (n ≡ 0 → ⊥) → cond t n m ≡ 0 → (t ≡ false) × (m ≡ 0)
-formed true n m z e = absurd (z e)
-formed false n m z e = (refl, e)
-
 -- a test that is not met: the numbers are equal
 equal : (a b : ℕ) → not (eqb a b) ≡ false → a ≡ b
 equal a b e = eqb-true a b (not-false (eqb a b) e)
 
-form-first : (f : Facts) (room : ℕ) → firstRefusal f room .number ≡ 0
-    → (formRefusal (f .length) (f .edition) (f .count) (f .distance) ≡ 0)
-    × (recordsVerdict (f .sum) (f .said) (f .bad) (f .count) (f .total) room .number ≡ 0)
-unfolding firstRefusal
-form-first f room =
-    by (formRefusal (f .length) (f .edition) (f .count) (f .distance)) (recordsVerdict (f .sum) (f .said) (f .bad) (f .count) (f .total) room)
-  where
-    by : (n : ℕ) (w : Verdict) → cond (eqb n 0) w (refused n) .number ≡ 0 → (n ≡ 0) × (w .number ≡ 0)
-    by zero w e = (refl, e)
-    by (suc n) w e = let z : suc n ≡ 0 = rw (ne-eqb (suc n) 0 (λ o. omega arith)) at e in absurd (omega arith)
-
 pub fine : (f : Facts) (room : ℕ) → firstRefusal f room .number ≡ 0 → Fine f room
+unfolding firstRefusal
 fine f room e =
-    let o = form-first f room e in
-    let a = formed (ltb (f .length) trailerSize) 1 _ (λ z. omega arith) (o .0) in
-    let b = formed (not (eqb (f .edition) 1)) 2 _ (λ z. omega arith) (a .1) in
-    let c = formed (eqb (f .count) 0 || ltb functionsMax (f .count)) 3 _ (λ z. omega arith) (b .1) in
-    let d = formed (not (eqb (f .distance) (imageSize (f .count))) || ltb (f .length) (imageSize (f .count))) 4 0 (λ z. omega arith) (c .1) in
-    let g = passed (not (eqb (f .sum) (f .said))) 5 (refused 5) _ refl (λ z. omega arith) (o .1) in
+    let a = passed (ltb (f .length) trailerSize) 1 (refused 1) _ refl (λ z. omega arith) e in
+    let b = passed (not (eqb (f .edition) 1)) 2 (refused 2) _ refl (λ z. omega arith) (a .1) in
+    let c = passed (eqb (f .count) 0 || ltb functionsMax (f .count)) 3 (refused 3) _ refl (λ z. omega arith) (b .1) in
+    let d = passed (not (eqb (f .distance) (imageSize (f .count))) || ltb (f .length) (imageSize (f .count))) 4 (refused 4) _ refl (λ z. omega arith) (c .1) in
+    let g = passed (not (eqb (f .sum) (f .said))) 5 (refused 5) _ refl (λ z. omega arith) (d .1) in
     let h = passed (ltb (f .bad) (f .count)) 6 (badRecord (f .bad)) _ refl (λ z. omega arith) (g .1) in
     let i = passed (ltb cellsMax (f .total)) 7 (refused 7) _ refl (λ z. omega arith) (h .1) in
     let j = passed (ltb room (f .total)) 8 (refused 8) accepted refl (λ z. omega arith) (i .1) in
@@ -77,6 +63,27 @@ fine f room e =
       total = ltb-false cellsMax (f .total) (i .0);
       fits = ltb-false room (f .total) (j .0);
     }
+
+-- the table as the code goes through it: the trailer's refusals, then the records'
+pub by-steps : (f : Facts) (room : ℕ)
+    → let n = formRefusal (f .length) (f .edition) (f .count) (f .distance) in
+    firstRefusal f room ≡ cond (eqb n 0) (recordsVerdict (f .sum) (f .said) (f .bad) (f .count) (f .total) room) (refused n)
+unfolding firstRefusal
+by-steps f room =
+    each (ltb (f .length) trailerSize) (not (eqb (f .edition) 1)) (eqb (f .count) 0 || ltb functionsMax (f .count))
+    (not (eqb (f .distance) (imageSize (f .count))) || ltb (f .length) (imageSize (f .count)))
+  where
+    v : Verdict
+    v = recordsVerdict (f .sum) (f .said) (f .bad) (f .count) (f .total) room
+
+    each : (a b c d : Bool)
+        → cond a (refused 1) (cond b (refused 2) (cond c (refused 3) (cond d (refused 4) v)))
+        ≡ (let n = cond a 1 (cond b 2 (cond c 3 (cond d 4 0))) in cond (eqb n 0) v (refused n))
+    each true b c d = refl
+    each false true c d = refl
+    each false false true d = refl
+    each false false false true = refl
+    each false false false false = refl
 
 -- of a fine image only the cells are left to ask, whatever number of them is lent
 pub cells-left : (f : Facts) (r : ℕ) → Fine f r → (room : ℕ) → firstRefusal f room ≡ cellsVerdict (f .total) room

@@ -18,7 +18,8 @@ use Rattle.board.proofs.Numbers.{big-below, big-bytes, bytes-big}
 use Rattle.board.proofs.Tables.{table-length}
 use Rattle.image.specs.Cells.{total, offsetsOf}
 use Rattle.image.specs.Image.{imageSize, back, distanceOf, countOf, editionOf, sumOf, recordsOf, sum, trailer}
-use Rattle.image.specs.Refusals.{accepted, cellsVerdict}
+use Rattle.image.specs.Refusals.{accepted}
+use Rattle.image.specs.Steps.{cellsVerdict}
 use Rattle.image.specs.Check.{factsOf, checked}
 use Rattle.image.specs.Load.{Loaded, loaded, load, padded, restarted, installed}
 use Rattle.image.specs.Write.{Written, write, written}

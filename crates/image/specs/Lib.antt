@@ -5,4 +5,5 @@ pub mod Refusals
 pub mod Check
 pub mod Load
 pub mod Write
+pub mod Steps
 pub mod Meaning

@@ -1,7 +1,6 @@
 -- Load and reset: document 01, "The modelled board".
 use Prim.Native.Nat.{ℕ, _*_, _-_, _/_, _%_}
 use mathlib.Core.Bool.{cond}
-use mathlib.Core.Path.{_≡_}
 use mathlib.Core.List.{List, [], _∷_, _++_}
 use lib.Dec.{ltb, eqb}
 use lib.ListN.{length, getD, replicate}
@@ -36,12 +35,6 @@ restarted header records offsets cells =
 abbrev pub installed : List ℕ → List ℕ → Parts
 installed image cells =
     restarted (countOf image ∷ 0 ∷ 0 ∷ 0 ∷ []) (padded (recordsOf image)) (offsetsOf (exponent (padded (recordsOf image)))) cells
-
--- what an accepted image gives of itself; the rest follows from it
-pub record Installed (image h r o : List ℕ) : Type 0 where
-  pub header : h ≡ countOf image ∷ 0 ∷ 0 ∷ 0 ∷ []
-  pub records : r ≡ padded (recordsOf image)
-  pub offsets : o ≡ offsetsOf (exponent (padded (recordsOf image)))
 
 pub record Loaded : Type 0 where
   pub verdict : Verdict

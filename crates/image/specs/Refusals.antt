@@ -41,25 +41,13 @@ pub record Facts : Type 0 where
   pub bad : ℕ
   pub total : ℕ
 
--- refusals 7 and 8
-abbrev pub cellsVerdict : ℕ → ℕ → Verdict
-cellsVerdict total room = cond (ltb cellsMax total) (refused 7) (cond (ltb room total) (refused 8) accepted)
-
--- refusals 5 to 8
-abbrev pub recordsVerdict : ℕ → ℕ → ℕ → ℕ → ℕ → ℕ → Verdict
-recordsVerdict sum said bad count total room =
-    cond (not (eqb sum said)) (refused 5) (cond (ltb bad count) (badRecord bad) (cellsVerdict total room))
-
--- refusals 1 to 4 of the trailer, the upper length apart; 0 for none
-abbrev pub formRefusal : ℕ → ℕ → ℕ → ℕ → ℕ
-formRefusal length edition count distance =
-    cond (ltb length trailerSize) 1
-    (cond (not (eqb edition 1)) 2
-    (cond (eqb count 0 || ltb functionsMax count) 3
-    (cond (not (eqb distance (imageSize count)) || ltb length (imageSize count)) 4 0)))
-
--- the first that applies, with so many cells lent; the upper length of refusal 1 apart
+-- the first that applies, with so many cells lent; the upper length of refusal 1 stands apart
 unfoldable pub firstRefusal : Facts → ℕ → Verdict
 firstRefusal f room =
-    cond (eqb (formRefusal (f .length) (f .edition) (f .count) (f .distance)) 0) (recordsVerdict (f .sum) (f .said) (f .bad) (f .count) (f .total) room)
-    (refused (formRefusal (f .length) (f .edition) (f .count) (f .distance)))
+    cond (ltb (f .length) trailerSize) (refused 1)
+    (cond (not (eqb (f .edition) 1)) (refused 2)
+    (cond (eqb (f .count) 0 || ltb functionsMax (f .count)) (refused 3)
+    (cond (not (eqb (f .distance) (imageSize (f .count))) || ltb (f .length) (imageSize (f .count))) (refused 4)
+    (cond (not (eqb (f .sum) (f .said))) (refused 5)
+    (cond (ltb (f .bad) (f .count)) (badRecord (f .bad))
+    (cond (ltb cellsMax (f .total)) (refused 7) (cond (ltb room (f .total)) (refused 8) accepted)))))))

@@ -9,6 +9,7 @@ use board::number::Width;
 use board::number::big_at;
 use board::number::byte_at;
 use board::number::power;
+use board::number::wide;
 use record::rules::record_ok;
 ghost use mathlib.Core.Path.{_≡_};
 ghost use Prim.Native.Nat.{_*_, _<_, _≤_};
@@ -16,7 +17,8 @@ ghost use lib.ListN.{length};
 ghost use Rattle.board.specs.Layout.{functionsMax, recordSize, windowsMax, exponent};
 ghost use Rattle.image.specs.Cells.{cellCount, slotCells, total};
 ghost use Rattle.image.specs.Image.{imageSize, trailerSize, recordAt, sum};
-ghost use Rattle.image.specs.Refusals.{firstBad, formRefusal, cellsVerdict, recordsVerdict};
+ghost use Rattle.image.specs.Refusals.{firstBad};
+ghost use Rattle.image.specs.Steps.{formRefusal, cellsVerdict, recordsVerdict};
 ghost use Rattle.image.specs.Check.{judged, checked};
 
 // Bytes of the trailer, and of an image and of all cells at most.
@@ -40,13 +42,6 @@ fn plain(number: u8) -> Verdict
         number: number,
         place: 0,
     }
-}
-
-// A byte as a number.
-fn wide(b: u8) -> u32
-    ensures { λ r. ⌜ (r ≡ b) × (r < 256) ⌝ }
-{
-    b as u32
 }
 
 // The sum of all bytes.

@@ -5,8 +5,10 @@ use crate::check::check_image;
 use crate::check::slot_cells;
 use board::layout::CellOffsets;
 use board::layout::FUNCTIONS;
+use board::layout::HOOK;
 use board::layout::Header;
 use board::layout::Hooks;
+use board::layout::MARK;
 use board::layout::RECORD;
 use board::layout::REGISTER_BYTES;
 use board::layout::Records;
@@ -28,7 +30,8 @@ ghost use Rattle.board.specs.Layout.{functionsMax, recordSize, registersEach, w
 ghost use Rattle.board.specs.Parts.{parts};
 ghost use Rattle.image.specs.Cells.{offsetsOf, zeroed};
 ghost use Rattle.image.specs.Image.{imageSize, countOf, recordsOf};
-ghost use Rattle.image.specs.Load.{Installed, padded, registersOf, restarted, loaded, load, resetTo, reset};
+ghost use Rattle.image.specs.Steps.{Installed};
+ghost use Rattle.image.specs.Load.{padded, registersOf, restarted, loaded, load, resetTo, reset};
 
 // The reset values of all functions into the registers.
 fn copy_registers(records: &[u8], registers: &mut [u8])
@@ -73,9 +76,9 @@ fn clear(cells: &mut [u8], n: usize)
 fn restart(
     header: &Header,
     records: &Records,
-    offsets: &CellOffsets,
     registers: &mut Registers,
     windows: &mut Windows,
+    offsets: &CellOffsets,
     hooks: &mut Hooks,
     used: &mut Used,
     cells: &mut [u8],
@@ -85,8 +88,8 @@ fn restart(
 {
     copy_registers(records, registers);
     refresh(header, records, registers, windows);
-    *hooks = [0u32; 3 * FUNCTIONS];
-    *used = [0u32; 2 * FUNCTIONS];
+    *hooks = [0u32; HOOK * FUNCTIONS];
+    *used = [0u32; MARK * FUNCTIONS];
     clear(cells, u32_at(offsets, WINDOWS) as usize);
 }
 
@@ -94,9 +97,9 @@ fn restart(
 pub fn reset(
     header: &Header,
     records: &Records,
-    offsets: &CellOffsets,
     registers: &mut Registers,
     windows: &mut Windows,
+    offsets: &CellOffsets,
     hooks: &mut Hooks,
     used: &mut Used,
     cells: &mut [u8],
@@ -109,9 +112,9 @@ pub fn reset(
     restart(
         header,
         records,
-        offsets,
         registers,
         windows,
+        offsets,
         hooks,
         used,
         cells,
@@ -163,9 +166,9 @@ pub fn load(
     restart(
         header,
         records,
-        offsets,
         registers,
         windows,
+        offsets,
         hooks,
         used,
         cells,

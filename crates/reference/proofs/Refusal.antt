@@ -2,12 +2,12 @@
 use Prim.Native.Nat.{ℕ, zero, suc}
 use native.Mathlib.Omega.{arith}
 use mathlib.Core.Bool.{true, false, not, cond, _||_, false≢true}
-use mathlib.Core.Logic.{_⊎_, inl, inr, ⊎-elim}
+use mathlib.Core.Logic.{inl, inr}
 use mathlib.Core.Path.{_≡_, refl}
 use mathlib.Core.List.{List, [], _∷_}
 use lib.Dec.{ltb, eqb}
 use lib.IntN.{pos}
-use borrow.Author.Tests.{ne-eqb, eqb-false}
+use borrow.Author.Tests.{ne-eqb}
 use lib.ListN.{length, getD}
 use Rattle.board.specs.Parts.{Parts}
 use Rattle.board.specs.Layout.{functionsMax, windowsMax}
@@ -16,7 +16,7 @@ use Rattle.window_list.specs.Windows.{Window}
 use Rattle.window_list.specs.Kept.{unpacked}
 use Rattle.window_list.specs.Listing.{listing, numberOf, valuesOf}
 use Rattle.image.specs.Image.{trailerSize, imageSize}
-use Rattle.image.specs.Refusals.{Facts, imageMax, cellsMax, accepted, refused, badRecord, formRefusal, recordsVerdict, firstRefusal}
+use Rattle.image.specs.Refusals.{Facts, imageMax, cellsMax, accepted, refused, badRecord, firstRefusal}
 use Rattle.image.specs.Check.{factsOf, checked}
 use Rattle.image.specs.Load.{ResetOutcome, loaded, load, reset}
 use Rattle.image.specs.Write.{Written, write}
@@ -42,31 +42,18 @@ pub data Stated : Verdict → Type 0 where
   bad : (i : ℕ) → Stated (badRecord i)
   plain : (n : ℕ) → Among (pos n) (refusals Load) → Stated (refused n)
 
--- the number of the trailer's refusal
-form-stated : (f : Facts) → let n = formRefusal (f .length) (f .edition) (f .count) (f .distance) in (n ≡ 0) ⊎ Among (pos n) (refusals Load)
-form-stated f =
-    ifTest P (ltb (f .length) trailerSize) (λ e. inr (inl refl)) (λ e.
-    ifTest P (not (eqb (f .edition) 1)) (λ e. inr (inr (inl refl))) (λ e.
-    ifTest P (eqb (f .count) 0 || ltb functionsMax (f .count)) (λ e. inr (inr (inr (inl refl)))) (λ e.
-    ifTest P (not (eqb (f .distance) (imageSize (f .count))) || ltb (f .length) (imageSize (f .count)))
-    (λ e. inr (inr (inr (inr (inl refl))))) (λ e. inl refl))))
-  where
-    P : ℕ → Type 0
-    P n = (n ≡ 0) ⊎ Among (pos n) (refusals Load)
-
-records-stated : (f : Facts) (room : ℕ) → Stated (recordsVerdict (f .sum) (f .said) (f .bad) (f .count) (f .total) room)
-records-stated f room =
-    ifTest Stated (not (eqb (f .sum) (f .said))) (λ e. plain 5 (inr (inr (inr (inr (inl refl)))))) (λ e.
-    ifTest Stated (ltb (f .bad) (f .count)) (λ e. bad (f .bad)) (λ e.
-    ifTest Stated (ltb cellsMax (f .total)) (λ e. plain 7 (inr (inr (inr (inr (inr (inr (inl refl)))))))) (λ e.
-    ifTest Stated (ltb room (f .total)) (λ e. plain 8 (inr (inr (inr (inr (inr (inr (inr (inl refl))))))))) (λ e. fine))))
-
 facts-stated : (f : Facts) (room : ℕ) → Stated (firstRefusal f room)
 unfolding firstRefusal
 facts-stated f room =
-    let n = formRefusal (f .length) (f .edition) (f .count) (f .distance) in
-    ifTest Stated (eqb n 0) (λ e. records-stated f room)
-    (λ e. ⊎-elim (λ z. absurd (eqb-false n 0 e z)) (λ a. plain n a) (form-stated f))
+    ifTest Stated (ltb (f .length) trailerSize) (λ e. plain 1 (inl refl)) (λ e.
+    ifTest Stated (not (eqb (f .edition) 1)) (λ e. plain 2 (inr (inl refl))) (λ e.
+    ifTest Stated (eqb (f .count) 0 || ltb functionsMax (f .count)) (λ e. plain 3 (inr (inr (inl refl)))) (λ e.
+    ifTest Stated (not (eqb (f .distance) (imageSize (f .count))) || ltb (f .length) (imageSize (f .count)))
+    (λ e. plain 4 (inr (inr (inr (inl refl))))) (λ e.
+    ifTest Stated (not (eqb (f .sum) (f .said))) (λ e. plain 5 (inr (inr (inr (inr (inl refl)))))) (λ e.
+    ifTest Stated (ltb (f .bad) (f .count)) (λ e. bad (f .bad)) (λ e.
+    ifTest Stated (ltb cellsMax (f .total)) (λ e. plain 7 (inr (inr (inr (inr (inr (inr (inl refl)))))))) (λ e.
+    ifTest Stated (ltb room (f .total)) (λ e. plain 8 (inr (inr (inr (inr (inr (inr (inr (inl refl))))))))) (λ e. fine))))))))
 
 stated : (image : List ℕ) (room : ℕ) → Stated (checked image room)
 unfolding checked

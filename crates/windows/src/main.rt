@@ -1,8 +1,10 @@
 // Lists the windows of the board whose image stands on standard input: document 01, "Board B1 and its cases".
 use board::layout::CellOffsets;
 use board::layout::FUNCTIONS;
+use board::layout::HOOK;
 use board::layout::Header;
 use board::layout::Hooks;
+use board::layout::MARK;
 use board::layout::RECORD;
 use board::layout::REGISTER_BYTES;
 use board::layout::Records;
@@ -112,8 +114,8 @@ fn main() {
     let mut registers: Registers = [0u8; FUNCTIONS * REGISTER_BYTES];
     let mut windows: Windows = [0u64; WINDOWS];
     let mut offsets: CellOffsets = [0u32; WINDOWS + 1];
-    let mut hooks: Hooks = [0u32; 3 * FUNCTIONS];
-    let mut used: Used = [0u32; 2 * FUNCTIONS];
+    let mut hooks: Hooks = [0u32; HOOK * FUNCTIONS];
+    let mut used: Used = [0u32; MARK * FUNCTIONS];
     let verdict = load(
         &input[..n],
         &mut header,

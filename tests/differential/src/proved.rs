@@ -23,9 +23,9 @@ extern "C" {
     fn pci_reset(
         header: *const Header,
         records: *const Records,
-        cell_offsets: *const CellOffsets,
         registers: *mut Registers,
         windows: *mut Windows,
+        cell_offsets: *const CellOffsets,
         hooks: *mut Hooks,
         used: *mut UsedMarks,
         cells: *mut u8,
@@ -142,9 +142,9 @@ impl Proved {
             pci_reset(
                 &raw mut self.header.value,
                 &raw mut self.records.value,
-                &raw mut self.cell_offsets.value,
                 &raw mut self.registers.value,
                 &raw mut self.windows.value,
+                &raw mut self.cell_offsets.value,
                 &raw mut self.hooks.value,
                 &raw mut self.used.value,
                 cells.as_mut_ptr(),

@@ -1,10 +1,11 @@
 -- `judge`: the trailer's numbers are read where the definition reads them; once they pass, the slice lent on is the records.
 use Prim.Native.Nat.{_+_, _-_, _*_}
-use mathlib.Core.Path.{_≡_, _∙_}
+use mathlib.Core.Path.{_≡_, sym, _∙_}
 use native.Mathlib.Omega.{arith}
 use lib.ListN.{length}
 use borrow.Author.Tests.{eq-eqb, ne-eqb, lt-ltb}
 use Rattle.image.specs.Refusals.{firstRefusal}
+use Rattle.image.proofs.Accepted.{by-steps}
 use borrow.Author.Needs.{needs}
 use Rattle.image.proofs.check.judge.Statement.{statement}
 use Rattle.image.proofs.check.judge.Tie as tie
@@ -40,12 +41,11 @@ plain-requires-2 : tie.Need-plain-requires-2
 plain-requires-2 c κs = search needs
 
 returns-2 : tie.Need-returns-2
-unfolding firstRefusal
 returns-2 c =
     let d = c .before .before in
     let b = d .before .before .before in
     let form = rw (b .big-at .ensures, d .before .before .big-at2 .ensures, d .before .big-at3 .ensures) at (d .form-refusal .ensures .0) in
-    c .plain2 .ensures ∙ simp (← form, ne-eqb _ _ (c .before .if2 .taken))
+    c .plain2 .ensures ∙ sym (by-steps _ _ ∙ simp (← form, ne-eqb _ _ (c .before .if2 .taken)))
 
 cast-n : tie.Need-cast-n
 cast-n c = search needs
@@ -90,7 +90,6 @@ records-verdict-requires c κs =
     (fits .0, omega arith)
 
 returns-3 : tie.Need-returns-3
-unfolding firstRefusal
 returns-3 c =
     let d = c .before .before .before .before in
     let b = d .before .before .before in
@@ -99,7 +98,7 @@ returns-3 c =
     let long : l - (544 * n + 12) + 544 * n - (l - (544 * n + 12)) ≡ 544 * n = omega arith in
     let form = rw (b .big-at .ensures, d .before .before .big-at2 .ensures, d .before .big-at3 .ensures) at (d .form-refusal .ensures .0) in
     let rest = rw (long, b .big-at .ensures, c .before .before .big-at4 .ensures) at (c .records-verdict .ensures) in
-    simp (← form, eq-eqb _ _ (c .before .before .before .if2 .left)) rest
+    rest ∙ sym (by-steps _ _ ∙ simp (← form, eq-eqb _ _ (c .before .before .before .if2 .left)))
 
 pub judge-spec : {M : Type 1} → statement M
 judge-spec =
