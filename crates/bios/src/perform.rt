@@ -7,7 +7,6 @@ use board::layout::Registers;
 use board::layout::Used;
 use board::layout::Windows;
 use board::status::Status;
-use image::check::Verdict;
 use image::load::load;
 use image::load::reset;
 use image::write::write_image;
@@ -23,9 +22,8 @@ ghost use mathlib.Core.List.{[], _∷_};
 ghost use lib.IntN.{pos};
 ghost use lib.ListN.{replicate};
 ghost use Rattle.board.specs.Parts.{parts};
-ghost use Rattle.board.specs.Statuses.{successful};
 ghost use Rattle.window_list.specs.Listing.{numberOf, valuesOf, spaceNumber, startNumber, lengthNumber};
-ghost use Rattle.reference.specs.Answers.{answer, ofStatus, ofVerdict, zeros};
+ghost use Rattle.reference.specs.Answers.{answer, ofStatus};
 ghost use Rattle.reference.specs.State.{next, step};
 
 // The answer with the number of a load or of the writer, and one value.
@@ -50,6 +48,7 @@ fn of_status(status: Status) -> Answer
     }
 }
 
+// A window's values in their order; a mark is 1 where it is set.
 fn values(space: u64, start: u32, length: u32, handle: u32, base: u32, contested: bool) -> Values
     ensures { λ r. ⌜ r ≡ space ∷ start ∷ length ∷ handle ∷ base ∷ cond contested 1 0 ∷ [] ⌝ }
 {

@@ -4,7 +4,6 @@ use crate::number::big_at;
 use crate::number::byte_at;
 use crate::number::little_at;
 ghost use mathlib.Core.Path.{_≡_};
-ghost use Prim.Native.Nat.{_+_};
 ghost use Rattle.board.specs.Layout.{recordByte, maskByte, exponent, byteOrder, widths, offset, dmaOffset, entryByte, registerByte, baseRegister};
 ghost use Rattle.board.specs.Numbers.{big};
 

@@ -8,7 +8,6 @@ use mathlib.Core.List.{List, [], _∷_}
 use lib.ListN.{length, drop, replicate, length-take}
 use Rattle.board.specs.Numbers.{byteAt}
 use Rattle.board.specs.Tables.{tableFrom, table}
-use Rattle.board.specs.Parts.{parts}
 use Rattle.board.specs.Layout.{functionsMax, bases, windowsMax, recordSize, entriesAt, entrySize, registersEach, hookSize, markSize, recordByte, exponent, registerByte}
 use Rattle.board.proofs.Tables.{table-get, table-same}
 use Rattle.window_list.specs.Windows.{listOf, windowList}
