@@ -5,7 +5,8 @@
 #include <stddef.h>
 #include <stdint.h>
 
-/* What a board is kept in. All zero is the board before the first load; nothing is kept anywhere else. */
+/* What a board is kept in. All zero is the board before the first load; nothing is kept anywhere else. What is lent to one
+   call must not overlap. */
 typedef struct {
     uint32_t header[4];
     uint8_t records[16 * 544];
