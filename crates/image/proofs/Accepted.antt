@@ -85,6 +85,18 @@ by-steps f room =
     each false false false true = refl
     each false false false false = refl
 
+-- where all but the last of the trailer's tests are passed
+pub form-last : (long edition count distance : ℕ) → trailerSize ≤ long → edition ≡ 1 → (count ≡ 0 → ⊥) → count ≤ functionsMax
+    → distance ≡ imageSize count → formRefusal long edition count distance ≡ cond (ltb long (imageSize count)) 4 0
+form-last long edition count distance l e n f d =
+    rw (
+      le-ltb long trailerSize l,
+      eq-eqb edition 1 e,
+      ne-eqb count 0 n,
+      le-ltb functionsMax count f,
+      eq-eqb distance (imageSize count) d,
+    )
+
 -- of a fine image only the cells are left to ask, whatever number of them is lent
 pub cells-left : (f : Facts) (r : ℕ) → Fine f r → (room : ℕ) → firstRefusal f room ≡ cellsVerdict (f .total) room
 unfolding firstRefusal

@@ -1,7 +1,9 @@
 -- `form_refusal`: the tests are the definition's, in its order; passed, they tell that there are at most 16 records and that they fit.
 use Prim.Native.Nat.{_+_, _*_}
+use mathlib.Core.Path.{sym, _∙_}
 use native.Mathlib.Omega.{arith}
 use borrow.Author.Tests.{ne-eqb, eq-eqb, lt-ltb, le-ltb}
+use Rattle.image.proofs.Accepted.{form-last}
 use borrow.Author.Needs.{needs}
 use Rattle.image.proofs.check.form_refusal.Statement.{statement}
 use Rattle.image.proofs.check.form_refusal.Tie as tie
@@ -54,32 +56,16 @@ returns-4 c =
 returns-5 : tie.Need-returns-5
 returns-5 c =
     let d = c .before .before .before in
-    let a = d .before .before .args in (
-      simp (
-        le-ltb (a .long) 12 (omega arith),
-        eq-eqb (a .edition) 1 (omega arith),
-        ne-eqb (a .count) 0 (λ z. omega (arith, d .if2 .left)),
-        le-ltb 16 (a .count) (omega arith),
-        eq-eqb (a .distance) (544 * a .count + 12) (omega arith),
-        lt-ltb (a .long) (544 * a .count + 12) (omega arith),
-      ),
-      omega arith,
-    )
+    let a = d .before .before .args in
+    let last = form-last (a .long) (a .edition) (a .count) (a .distance) (omega arith) (omega arith) (λ z. omega (arith, d .if2 .left)) (omega arith) (omega arith) in
+    (sym (last ∙ rw (lt-ltb (a .long) (544 * a .count + 12) (omega arith))), omega arith)
 
 returns-6 : tie.Need-returns-6
 returns-6 c =
     let d = c .before .before .before in
-    let a = d .before .before .args in (
-      simp (
-        le-ltb (a .long) 12 (omega arith),
-        eq-eqb (a .edition) 1 (omega arith),
-        ne-eqb (a .count) 0 (λ z. omega (arith, d .if2 .left)),
-        le-ltb 16 (a .count) (omega arith),
-        eq-eqb (a .distance) (544 * a .count + 12) (omega arith),
-        le-ltb (a .long) (544 * a .count + 12) (omega arith),
-      ),
-      λ z. (omega arith, omega arith),
-    )
+    let a = d .before .before .args in
+    let last = form-last (a .long) (a .edition) (a .count) (a .distance) (omega arith) (omega arith) (λ z. omega (arith, d .if2 .left)) (omega arith) (omega arith) in
+    (sym (last ∙ rw (le-ltb (a .long) (544 * a .count + 12) (omega arith))), λ z. (omega arith, omega arith))
 
 pub form-refusal-spec : {M : Type 1} → statement M
 form-refusal-spec =
