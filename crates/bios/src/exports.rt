@@ -23,7 +23,7 @@ ghost use Rattle.bios.specs.Exports.{verdict, status, shown, shownWindow
 
 // The number of the first refusal of an image with so many cells, 0 for none; the place of a bad record, else 0, goes to `place`.
 #[no_mangle]
-pub extern "C" fn pci_check_image(image: &[u8], room: usize, place: &mut u32) -> u32
+pub extern "C" fn bios_check_image(image: &[u8], room: usize, place: &mut u32) -> u32
     ensures { λ r. ⌜ verdict r (now (place .exit)) ≡ checked (now (image .entry)) room ⌝ }
 {
     let v = check_image(image, room);
@@ -33,7 +33,7 @@ pub extern "C" fn pci_check_image(image: &[u8], room: usize, place: &mut u32) ->
 
 // Loads an image; number and place as above.
 #[no_mangle]
-pub extern "C" fn pci_load(
+pub extern "C" fn bios_load(
     image: &[u8],
     header: &mut Header,
     records: &mut Records,
@@ -64,7 +64,7 @@ pub extern "C" fn pci_load(
 
 // Resets a board.
 #[no_mangle]
-pub extern "C" fn pci_reset(
+pub extern "C" fn bios_reset(
     header: &Header,
     records: &Records,
     registers: &mut Registers,
@@ -91,7 +91,7 @@ pub extern "C" fn pci_reset(
 
 // Writes the loaded board as an image; the number of the refusal, 0 for none.
 #[no_mangle]
-pub extern "C" fn pci_write_image(header: &Header, records: &Records, out: &mut [u8]) -> u32
+pub extern "C" fn bios_write_image(header: &Header, records: &Records, out: &mut [u8]) -> u32
     ensures { λ r. ⌜ written r (now (out .exit)) ≡ write (now (header .entry)) (now (records .entry)) (now (out .entry)) ⌝ }
 {
     write_image(header, records, out) as u32
@@ -99,7 +99,7 @@ pub extern "C" fn pci_write_image(header: &Header, records: &Records, out: &mut 
 
 // Window n of the list, from 0: its number, and its values or zeros.
 #[no_mangle]
-pub extern "C" fn pci_list_window(windows: &Windows, n: u32, values: &mut Values) -> i32
+pub extern "C" fn bios_list_window(windows: &Windows, n: u32, values: &mut Values) -> i32
     ensures { λ r. ⌜ shown r (now (values .exit)) ≡ shownWindow (unpacked (now (windows .entry))) n ⌝ }
 {
     let a = of_listing(list_window(windows, n));

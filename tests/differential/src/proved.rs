@@ -5,8 +5,8 @@ use crate::guards::{Guarded, GuardedBytes};
 use crate::parts::*;
 
 extern "C" {
-    fn pci_check_image(image: *const u8, length: usize, room: usize, place: *mut u32) -> u32;
-    fn pci_load(
+    fn bios_check_image(image: *const u8, length: usize, room: usize, place: *mut u32) -> u32;
+    fn bios_load(
         image: *const u8,
         image_length: usize,
         header: *mut Header,
@@ -20,7 +20,7 @@ extern "C" {
         cells_length: usize,
         place: *mut u32,
     ) -> u32;
-    fn pci_reset(
+    fn bios_reset(
         header: *const Header,
         records: *const Records,
         registers: *mut Registers,
@@ -31,13 +31,13 @@ extern "C" {
         cells: *mut u8,
         cells_length: usize,
     ) -> i32;
-    fn pci_write_image(
+    fn bios_write_image(
         header: *const Header,
         records: *const Records,
         out: *mut u8,
         out_length: usize,
     ) -> u32;
-    fn pci_list_window(windows: *const Windows, n: u32, values: *mut [u64; 6]) -> i32;
+    fn bios_list_window(windows: *const Windows, n: u32, values: *mut [u64; 6]) -> i32;
 }
 
 /// What a value handed back holds before the call.
@@ -115,7 +115,7 @@ impl Proved {
         // SAFETY: each pointer is to an array or slice of its type and length, alive and
         // not otherwise used during the call.
         let number = unsafe {
-            pci_load(
+            bios_load(
                 lent_image.inside_mut().as_mut_ptr(),
                 image.len(),
                 &raw mut self.header.value,
@@ -139,7 +139,7 @@ impl Proved {
         let cells = &mut self.cells.inside_mut()[..lent];
         // SAFETY: as in `load`.
         let number = unsafe {
-            pci_reset(
+            bios_reset(
                 &raw mut self.header.value,
                 &raw mut self.records.value,
                 &raw mut self.registers.value,
@@ -159,7 +159,7 @@ impl Proved {
         let (header, records) = (&raw mut self.header.value, &raw mut self.records.value);
         // SAFETY: as in `load`.
         let number = unsafe {
-            pci_write_image(header, records, lent_out.inside_mut().as_mut_ptr(), out.len())
+            bios_write_image(header, records, lent_out.inside_mut().as_mut_ptr(), out.len())
         };
         kept(lent_out.intact(), "output buffer")?;
         Ok(Answer { out: lent_out.inside().to_vec(), ..Answer::number(number.into()) })
@@ -169,7 +169,7 @@ impl Proved {
         let mut values = Guarded::new([UNSET.into(); 6]);
         // SAFETY: as in `load`.
         let number =
-            unsafe { pci_list_window(&raw mut self.windows.value, n, &raw mut values.value) };
+            unsafe { bios_list_window(&raw mut self.windows.value, n, &raw mut values.value) };
         kept(values.intact(), "values")?;
         Ok(Answer { values: values.value, ..Answer::number(number.into()) })
     }
@@ -196,7 +196,7 @@ fn check_image(image: &[u8], room: usize) -> Result<Answer, String> {
     let bytes = lent_image.inside_mut();
     // SAFETY: as in `load`.
     let number =
-        unsafe { pci_check_image(bytes.as_mut_ptr(), bytes.len(), room, &raw mut place.value) };
+        unsafe { bios_check_image(bytes.as_mut_ptr(), bytes.len(), room, &raw mut place.value) };
     kept(lent_image.intact() && lent_image.inside() == image, "image")?;
     kept(place.intact(), "place")?;
     Ok(Answer::verdict(number, place.value))

@@ -1,9 +1,9 @@
--- `pci_list_window`: the number and the values of the listing.
+-- `bios_list_window`: the number and the values of the listing.
 use Rattle.bios.proofs.Signed.{back}
 use Rattle.bios.proofs.Arms.{list-shown}
 use borrow.Author.Needs.{needs}
-use Rattle.bios.proofs.exports.pci_list_window.Statement.{statement}
-use Rattle.bios.proofs.exports.pci_list_window.Tie as tie
+use Rattle.bios.proofs.exports.bios_list_window.Statement.{statement}
+use Rattle.bios.proofs.exports.bios_list_window.Tie as tie
 
 list-window-requires : tie.Need-list-window-requires
 list-window-requires c κs = search needs
@@ -17,5 +17,5 @@ returns c =
     rw (back (a .result .number) (record { sfits = c .struct-told .given .0 .1 }))
     (list-shown _ _ _ (a .result) (c .before .before .before .list-window .ensures) (a .ensures))
 
-pub pci-list-window-spec : {M : Type 1} → statement M
-pci-list-window-spec = tie.close (tie.spec list-window-requires of-listing-requires returns)
+pub bios-list-window-spec : {M : Type 1} → statement M
+bios-list-window-spec = tie.close (tie.spec list-window-requires of-listing-requires returns)

@@ -1,8 +1,8 @@
--- `pci_reset`: the status of the reset, read back.
+-- `bios_reset`: the status of the reset, read back.
 use Rattle.bios.proofs.Signed.{back}
 use borrow.Author.Needs.{needs}
-use Rattle.bios.proofs.exports.pci_reset.Statement.{statement}
-use Rattle.bios.proofs.exports.pci_reset.Tie as tie
+use Rattle.bios.proofs.exports.bios_reset.Statement.{statement}
+use Rattle.bios.proofs.exports.bios_reset.Tie as tie
 
 reset-requires : tie.Need-reset-requires
 reset-requires c κs = search needs
@@ -16,5 +16,5 @@ same-length c = search needs
 returns : tie.Need-returns
 returns c = rw (back (c .number .result) (record { sfits = c .number .ok }), c .number .ensures) (c .before .before .before .reset .ensures)
 
-pub pci-reset-spec : {M : Type 1} → statement M
-pci-reset-spec = tie.close (tie.spec reset-requires number-requires same-length returns)
+pub bios-reset-spec : {M : Type 1} → statement M
+bios-reset-spec = tie.close (tie.spec reset-requires number-requires same-length returns)

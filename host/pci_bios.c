@@ -1,0 +1,42 @@
+/* The calls of pci_bios.h over the proved static library: numbers and pointers are passed on, no rule stands here. */
+#include "pci_bios.h"
+
+uint32_t bios_check_image(const uint8_t *image, size_t length, size_t room, uint32_t *place);
+uint32_t bios_load(const uint8_t *image, size_t length, uint32_t *header, uint8_t *records, uint8_t *registers,
+                   uint64_t *windows, uint32_t *cell_offsets, uint32_t *hooks, uint32_t *used, uint8_t *cells,
+                   size_t cells_length, uint32_t *place);
+int32_t bios_reset(const uint32_t *header, const uint8_t *records, uint8_t *registers, uint64_t *windows,
+                   const uint32_t *cell_offsets, uint32_t *hooks, uint32_t *used, uint8_t *cells, size_t cells_length);
+uint32_t bios_write_image(const uint32_t *header, const uint8_t *records, uint8_t *out, size_t length);
+int32_t bios_list_window(const uint64_t *windows, uint32_t n, uint64_t *values);
+
+int32_t pci_check_image(const uint8_t *image, size_t length, uint32_t *place) {
+    return (int32_t)bios_check_image(image, length, SIZE_MAX, place);
+}
+
+int32_t pci_load(struct pci_board *board, uint8_t *cells, size_t cells_length, const uint8_t *image, size_t length,
+                 uint32_t *place) {
+    return (int32_t)bios_load(image, length, board->header, board->records, board->registers, board->windows,
+                              board->cell_offsets, board->hooks, board->used, cells, cells_length, place);
+}
+
+int32_t pci_reset(struct pci_board *board, uint8_t *cells, size_t cells_length) {
+    return bios_reset(board->header, board->records, board->registers, board->windows, board->cell_offsets,
+                      board->hooks, board->used, cells, cells_length);
+}
+
+int32_t pci_write_image(const struct pci_board *board, uint8_t *out, size_t length) {
+    return (int32_t)bios_write_image(board->header, board->records, out, length);
+}
+
+int32_t pci_list_window(const struct pci_board *board, uint32_t n, struct pci_window *window) {
+    uint64_t values[6];
+    int32_t number = bios_list_window(board->windows, n, values);
+    window->io = (int)values[0];
+    window->start = (uint32_t)values[1];
+    window->length = (uint32_t)values[2];
+    window->handle = (uint32_t)values[3];
+    window->base = (uint32_t)values[4];
+    window->contested = (int)values[5];
+    return number;
+}
