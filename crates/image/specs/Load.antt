@@ -1,12 +1,12 @@
 -- Load and reset: document 01, "The modelled board".
-use Prim.Native.Nat.{ℕ, _*_, _-_, _/_, _%_}
+use Prim.Native.Nat.{ℕ, _*_, _/_, _%_}
 use mathlib.Core.Bool.{cond}
-use mathlib.Core.List.{List, [], _∷_, _++_}
+use mathlib.Core.List.{List, [], _∷_}
 use lib.Dec.{ltb, eqb}
 use lib.ListN.{length, getD, replicate}
 use Rattle.board.specs.Statuses.{successful, bufferTooSmall}
 use Rattle.board.specs.declared.status.Status.{Status}
-use Rattle.board.specs.Tables.{table}
+use Rattle.board.specs.Tables.{table, filledUp}
 use Rattle.board.specs.Parts.{Parts, parts}
 use Rattle.board.specs.Layout.{functionsMax, recordSize, registersEach, hookSize, markSize, windowsMax, recordByte, exponent}
 use Rattle.window_list.specs.Windows.{windowList}
@@ -18,7 +18,7 @@ use Rattle.image.specs.declared.check.Verdict.{Verdict}
 
 -- the loaded records, zeros after the last
 abbrev pub padded : List ℕ → List ℕ
-padded records = records ++ replicate (functionsMax * recordSize - length records) 0
+padded records = filledUp (functionsMax * recordSize) records
 
 -- the registers after a load and after a reset: the reset values of the loaded records
 unfoldable pub registersOf : List ℕ → List ℕ

@@ -14,7 +14,7 @@ ghost use Rattle.board.specs.Layout.{functionsMax, recordSize};
 ghost use Rattle.image.specs.Image.{imageSize, trailer, imageOf};
 ghost use Rattle.image.specs.Write.{written, write};
 
-// Byte i of a number of four bytes, from the lowest.
+// The byte of a number whose unit is worth so much.
 fn byte_of(v: u32, worth: u32) -> u8
     requires { ⌜ 0 < worth ⌝ }
     ensures { λ r. ⌜ r ≡ v / worth % 256 ⌝ }

@@ -7,7 +7,7 @@ use mathlib.Core.Path.{_≡_, refl, sym, _∙_}
 use mathlib.Core.List.{List, [], _∷_}
 use lib.ListN.{length, drop, replicate, length-take}
 use Rattle.board.specs.Numbers.{byteAt}
-use Rattle.board.specs.Tables.{tableFrom, table}
+use Rattle.board.specs.Tables.{tableFrom, table, filledUp}
 use Rattle.board.specs.Layout.{functionsMax, bases, windowsMax, recordSize, entriesAt, entrySize, registersEach, hookSize, markSize, recordByte, exponent, registerByte}
 use Rattle.board.proofs.Tables.{table-get, table-same}
 use Rattle.window_list.specs.Windows.{listOf, windowList}
@@ -20,7 +20,7 @@ use Rattle.image.proofs.Lists.{zeros-after}
 use Rattle.image.proofs.Ranges.{offset-at, before-same}
 use Rattle.image.proofs.Accepted.{Accepted, records-length}
 use Rattle.reference.specs.Reference.{recordOf, exponentOf, joined, fresh, imageRecords, imageFacts, verdict}
-use Rattle.reference.specs.Run.{numbers, lineByLine, filledUp, markNumber, partsOf}
+use Rattle.reference.specs.Run.{numbers, lineByLine, markNumber, partsOf}
 use Rattle.reference.proofs.Records.{Sized, joined-byte, split-length, split-sized, split-joined, split-byte, split-record, bad-same}
 
 -- the exponents of all slots are read alike

@@ -1,10 +1,10 @@
 -- Runs: what is asked, what is heard, and what stands after, of the program and of the reference machine.
-use Prim.Native.Nat.{ℕ, zero, suc, _+_, _*_, _-_, _/_, _%_}
+use Prim.Native.Nat.{ℕ, zero, suc, _+_, _*_, _/_, _%_}
 use mathlib.Core.Bool.{cond}
 use mathlib.Core.List.{List, [], _∷_, _++_}
 use lib.Dec.{eqb}
 use lib.ListN.{length, replicate}
-use Rattle.board.specs.Tables.{table}
+use Rattle.board.specs.Tables.{table, filledUp}
 use Rattle.board.specs.Parts.{Parts, parts}
 use Rattle.board.specs.Layout.{functionsMax, recordSize, registersEach, windowsMax, hookSize, markSize}
 use Rattle.window_list.specs.Kept.{keptList}
@@ -55,18 +55,15 @@ unfoldable pub referenceAfter : Reference → List Asked → Reference
 referenceAfter b [] = b
 referenceAfter b (c ∷ cs) = referenceAfter (referenceOn b c .reference) cs
 
--- the hooks of the first n lines, one line after the other, as three numbers each
+-- hooks as three numbers each
 unfoldable pub numbers : List Hook → List ℕ
 numbers [] = []
 numbers (h ∷ hs) = h .handle ∷ h .handler ∷ h .parameter ∷ numbers hs
 
+-- those of the first n lines, one line after the other
 unfoldable pub lineByLine : (ℕ → List Hook) → ℕ → List ℕ
 lineByLine chains zero = []
 lineByLine chains (suc n) = lineByLine chains n ++ numbers (chains n)
-
--- zeros after a list, up to a length
-abbrev pub filledUp : ℕ → List ℕ → List ℕ
-filledUp n l = l ++ replicate (n - length l) 0
 
 -- the two numbers of each mark in turn
 abbrev pub markNumber : (ℕ → Mark) → ℕ → ℕ
