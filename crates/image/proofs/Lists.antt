@@ -1,4 +1,4 @@
--- Laws of lists: cells set to zero, records with zeros after them.
+-- Laws of lists: cells zeroed, offsets placed, records and images copied.
 use Prim.Native.Nat.{ℕ, zero, suc, _+_, _*_, _-_, _<_, _≤_}
 use native.Mathlib.Omega.{arith}
 use native.Mathlib.Numerals.{add-one}
@@ -9,7 +9,7 @@ use lib.Seq.{drop-cons, take-length, take-all, take-at, drop-at, length-take-le,
 use Rattle.board.specs.Tables.{tableFrom, table}
 use Rattle.board.specs.Layout.{functionsMax, recordSize, windowsMax}
 use Rattle.board.proofs.Tables.{filled-more, filled-all}
-use Rattle.image.specs.Image.{trailerSize, imageSize, countOf, recordsOf}
+use Rattle.image.specs.Image.{trailerSize, imageSize, countOf, recordsOf, trailer}
 use Rattle.image.specs.Load.{padded}
 use Rattle.image.specs.Cells.{slotCells, cellsBefore, offsetsOf, zeroed}
 
@@ -63,6 +63,10 @@ placed-all k s t l h p =
     let e : s ≡ windowsMax = omega (arith, p .few) in
     filled-all (cellsBefore k) (windowsMax + 1) (set l windowsMax t) (simp length-set (omega (arith, p .size)))
     (filled-more (cellsBefore k) windowsMax t l (omega (arith, p .size)) (rw e at (p .next)) (rw e at (p .stands)))
+
+pub trailer-length : (count sum : ℕ) → length (trailer count sum) ≡ trailerSize
+unfolding tableFrom
+trailer-length count sum = refl
 
 -- what a copy to the front of a list leaves
 pub copied : (src dst out : List ℕ) → out ≡ take (length src) src ++ drop (length src) dst → out ≡ src ++ drop (length src) dst

@@ -10,7 +10,6 @@ use lib.ListN.{length, take, drop, length-append, drop-of-length-le, take-append
 use lib.Seq.{take-at, drop-drop}
 use borrow.Author.Tests.{eq-eqb, ne-eqb, le-ltb}
 use Rattle.board.specs.Numbers.{byteAt, bigBytes, big}
-use Rattle.board.specs.Tables.{tableFrom}
 use Rattle.board.specs.Layout.{functionsMax, recordSize, exponent}
 use Rattle.board.specs.Parts.{Parts}
 use Rattle.board.specs.Handles.{functionCount}
@@ -25,6 +24,7 @@ use Rattle.image.specs.Load.{Loaded, loaded, load, padded, restarted, in
 use Rattle.image.specs.Write.{Written, write, written}
 use Rattle.image.specs.Meaning.{rewritten, RoundTrip, WrittenBack, ImageAlone}
 use Rattle.image.specs.declared.check.Verdict.{Verdict}
+use Rattle.image.proofs.Lists.{trailer-length}
 use Rattle.image.proofs.Accepted.{Fine, Accepted, accepted-image, accepted-elsewhere, records-length}
 
 -- what an image says of itself: its trailer's numbers, and its records
@@ -35,10 +35,6 @@ record Says (image r : List ℕ) (n s : ℕ) : Type 0 where
   pub edition : editionOf image ≡ 1
   pub said : sumOf image ≡ s
   pub records : recordsOf image ≡ r
-
-trailer-length : (n s : ℕ) → length (trailer n s) ≡ 12
-unfolding tableFrom
-trailer-length n s = refl
 
 bytes-length : (w v : ℕ) (before : List ℕ) → length (before ++ bigBytes w v) ≡ length before + w
 bytes-length w v before = length-append before (bigBytes w v) ∙ rw table-length
@@ -141,14 +137,13 @@ load-verdict q image = both (eqb (checked image (length (q .cells)) .number) 0) 
 load-number : (p : Parts) (image : List ℕ) → load p image .verdict ≡ accepted → checked image (length (p .cells)) .number ≡ 0
 load-number p image e = ap (λ (v : Verdict). v .number) (sym (load-verdict p image) ∙ e)
 
-load-parts : (p : Parts) (image : List ℕ) → load p image .verdict ≡ accepted → load p image .parts ≡ installed image (p .cells)
-unfolding load
-load-parts p image e = rw (eq-eqb (checked image (length (p .cells)) .number) 0 (load-number p image e))
-
 load-whole : (p : Parts) (image : List ℕ) → load p image .verdict ≡ accepted → load p image ≡ loaded accepted (installed image (p .cells))
 unfolding load
 load-whole p image e =
     rw (eq-eqb (checked image (length (p .cells)) .number) 0 (load-number p image e), sym (load-verdict p image) ∙ e)
+
+load-parts : (p : Parts) (image : List ℕ) → load p image .verdict ≡ accepted → load p image .parts ≡ installed image (p .cells)
+load-parts p image e = ap (λ (w : Loaded). w .parts) (load-whole p image e)
 
 -- THEOREM: what else stood in the lent parts plays no role
 pub image-alone : ImageAlone

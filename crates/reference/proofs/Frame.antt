@@ -9,11 +9,11 @@ use lib.ListN.{length, getD, drop, length-append, length-drop}
 use lib.Seq.{getD-append-add, getD-drop}
 use borrow.Author.Tests.{ltb-false, eqb-true}
 use Rattle.board.specs.Layout.{functionsMax, registersEach, markSize}
-use Rattle.board.specs.Tables.{tableFrom, table}
+use Rattle.board.specs.Tables.{table}
 use Rattle.board.proofs.Tables.{table-length}
 use Rattle.image.specs.Cells.{total, zeroed}
-use Rattle.image.specs.Image.{imageSize}
-use Rattle.image.proofs.Lists.{zeroed-length, zeroed-past}
+use Rattle.image.specs.Image.{imageSize, sum, trailer}
+use Rattle.image.proofs.Lists.{zeroed-length, zeroed-past, trailer-length}
 use Rattle.image.proofs.Accepted.{accepted-image}
 use Rattle.reference.specs.declared.Answer.{Answer}
 use Rattle.reference.specs.declared.Call.{Call}
@@ -120,8 +120,10 @@ module _ (b : Reference) (s : Sound b) (own : List ℕ) where
       })
 
   image-length : length (imageBytes (b .records)) ≡ imageSize (length (b .records))
-  unfolding tableFrom
-  image-length = length-append (joined (b .records)) _ ∙ rw (joined-length (b .records) (s .sized))
+  image-length =
+      let j = joined (b .records) in
+      length-append j (trailer (length (b .records)) (sum j))
+      ∙ rw (joined-length (b .records) (s .sized), trailer-length (length (b .records)) (sum j))
 
   stays-write : Stays (mayTouch b WriteImage own) b own (referenceStep b WriteImage own)
   unfolding mayTouch referenceStep partsOf

@@ -3,10 +3,9 @@ use Prim.Native.Nat.{_*_, _-_}
 use lib.ListN.{length, take, drop}
 use lib.Seq.{length-take-le}
 use mathlib.Core.Path.{_≡_, sym, ap, _∙_}
-use Rattle.board.specs.Tables.{tableFrom}
 use Rattle.image.specs.Image.{trailerSize}
 use Rattle.board.specs.Layout.{recordSize}
-use Rattle.image.proofs.Lists.{copied, image-put}
+use Rattle.image.proofs.Lists.{copied, image-put, trailer-length}
 use mathlib.Core.Path.{_≡_}
 use borrow.Author.Needs.{needs}
 use native.Mathlib.Omega.{arith}
@@ -50,7 +49,6 @@ same-length : tie.Need-same-length
 same-length c = search needs
 
 returns : tie.Need-returns
-unfolding tableFrom
 returns c =
     let d = c .before .before .before .before .before .before .before .before .before .before .before .before .before .before .before in
     let n = recordSize * d .args .count in
@@ -59,7 +57,7 @@ returns c =
     let t = c .before .before .before .before .before .trailer .result in
     let a = copied (take n r) (d .args .out .now) _ (c .before .before .before .before .before .before .before .before .before .before .copy .ensures .1) in
     let b = copied t (take (length first - n) (drop n first)) _ (c .before .before .copy2 .ensures .1) in
-    let size : length t ≡ trailerSize = ap length (c .before .before .before .before .before .trailer .ensures) in
+    let size : length t ≡ trailerSize = ap length (c .before .before .before .before .before .trailer .ensures) ∙ trailer-length _ _ in
     image-put n r (d .args .out .now) first _ t (omega (arith, d .pre .1 .0)) size (d .pre .1 .1) a b
     ∙ rw (c .before .before .before .before .before .trailer .ensures, c .before .before .before .before .before .before .sum-of .ensures)
 
