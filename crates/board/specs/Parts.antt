@@ -24,3 +24,8 @@ parts header records registers windows cellOffsets hooks used cells =
       used = used;
       cells = cells;
     }
+
+-- the same board with other registers and another kept list
+abbrev pub withRegisters : List ℕ → List ℕ → Parts → Parts
+withRegisters registers windows p =
+    parts (p .header) (p .records) registers windows (p .cellOffsets) (p .hooks) (p .used) (p .cells)

@@ -5,7 +5,7 @@ use crate::number::byte_at;
 use crate::number::little_at;
 ghost use mathlib.Core.Path.{_≡_};
 ghost use Rattle.board.specs.Layout.{recordByte, maskByte, exponent, byteOrder, widths, offset, dmaOffset, entryByte, registerByte, baseRegister};
-ghost use Rattle.board.specs.Numbers.{big};
+ghost use Rattle.board.specs.Numbers.{bytes, little, big};
 
 // Functions of a board, at most.
 pub const FUNCTIONS: usize = 16;
@@ -141,10 +141,32 @@ pub fn register_byte(registers: &Registers, function: u32, register: u8) -> u8
     )
 }
 
+// The number at a place of a function's registers, least byte first.
+fn number_of_registers(registers: &Registers, function: u32, at: u32, width: Width) -> u32
+    ensures { λ r. ⌜ r ≡ little (bytes width) (registerByte (now (registers .entry)) function) at ⌝ }
+{
+    little_at(
+        registers,
+        REGISTER_BYTES * (function as usize) + at as usize,
+        width,
+    )
+}
+
+// The registers of a width from a register on, as one number.
+pub fn register_number(registers: &Registers, function: u32, register: u8, width: Width) -> u32
+    ensures { λ r. ⌜ r ≡ little (bytes width) (registerByte (now (registers .entry)) function) register ⌝ }
+{
+    number_of_registers(registers, function, register as u32, width)
+}
+
 // The value of a base register.
 pub fn base_register(registers: &Registers, function: u32, base: u8) -> u32
     ensures { λ r. ⌜ r ≡ baseRegister (registerByte (now (registers .entry)) function) base ⌝ }
 {
-    let at = REGISTER_BYTES * (function as usize) + (BASE_0 as usize + 4 * base as usize);
-    little_at(registers, at, Width::Long)
+    number_of_registers(
+        registers,
+        function,
+        BASE_0 as u32 + 4 * base as u32,
+        Width::Long,
+    )
 }

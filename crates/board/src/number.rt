@@ -1,7 +1,7 @@
 // Bytes and the numbers that they make: total readers, 0 past the end, and powers of two.
 ghost use mathlib.Core.Path.{_≡_};
 ghost use Prim.Native.Nat.{_+_, _*_, _%_, _<_};
-ghost use lib.ListN.{getD};
+ghost use lib.ListN.{getD, set};
 ghost use Rattle.board.specs.Numbers.{byteAt, bytes, little, big, reversed, power};
 
 // How many bytes an access or a number has: 1, 2 or 4.
@@ -11,11 +11,31 @@ pub enum Width {
     Long,
 }
 
+// The bytes of a width.
+pub fn bytes(width: Width) -> u8
+    ensures { λ r. ⌜ r ≡ bytes width ⌝ }
+{
+    match width {
+        Width::Byte => 1,
+        Width::Word => 2,
+        Width::Long => 4,
+    }
+}
+
 // The byte at a place, 0 past the end.
 pub fn byte_at(s: &[u8], at: usize) -> u8
     ensures { λ r. ⌜ r ≡ byteAt (now (s .entry)) at ⌝ }
 {
     if at < s.len() { s[at] } else { 0 }
+}
+
+// Stores a byte at a place; past the end nothing is stored.
+pub fn put_byte(s: &mut [u8], at: usize, b: u8)
+    ensures { λ _. ⌜ now (s .exit) ≡ set (now (s .entry)) at b ⌝ }
+{
+    if at < s.len() {
+        s[at] = b;
+    }
 }
 
 // A byte as a number, which is below 256.

@@ -1,0 +1,49 @@
+-- Which accesses are accepted, and for which function.
+use Prim.Native.Nat.{ℕ, _+_, _-_, _%_, _≤_}
+use native.Mathlib.Omega.{arith}
+use mathlib.Core.Bool.{Bool, true, false, cond, _&&_}
+use mathlib.Core.Path.{_≡_, refl, sym, ap}
+use lib.Dec.{eqb, leb}
+use borrow.Author.Tests.{eqb-true, le-leb, leb-true}
+use Rattle.board.specs.Layout.{registersEach}
+use Rattle.board.specs.Statuses.{successful, badRegisterNumber, badHandle}
+use Rattle.board.specs.declared.status.Status.{Status}
+use Rattle.board.proofs.Tests.{both-true}
+use Rattle.config.specs.declared.target.Target.the-variants.{Function, Refused}
+use Rattle.config.specs.Target.{fits, target}
+use Rattle.config.specs.Meaning.{InsideRegisters}
+
+-- where an aligned access cannot pass the last register, alignment is all that is to be tested
+pub aligned-fits : (w register : ℕ) → (register % w ≡ 0 → register + w ≤ registersEach) → eqb (register % w) 0 ≡ fits w register
+aligned-fits w register h = by (eqb (register % w) 0) refl
+  where
+    by : (t : Bool) → eqb (register % w) 0 ≡ t → t ≡ (t && leb (register + w) registersEach)
+    by true e = sym (le-leb _ _ (h (eqb-true _ _ e)))
+    by false e = refl
+
+-- an access is accepted for the function of its handle, where the handle is good and the access fits
+pub target-accepts : (good : Bool) (w handle register i : ℕ) → target good w handle register ≡ Function i
+    → (good ≡ true) × ((i ≡ handle - 1) × (fits w register ≡ true))
+unfolding target
+target-accepts good w handle register i = by good (fits w register)
+  where
+    by : (b f : Bool) → cond b (cond f (Function (handle - 1)) (Refused badRegisterNumber)) (Refused badHandle) ≡ Function i
+        → (b ≡ true) × ((i ≡ handle - 1) × (f ≡ true))
+    by true true e = (refl, (cc, refl))
+    by true false e = (refl, (cc, cc))
+    by false f e = (cc, (cc, cc))
+
+-- a refusal is never taken for success
+pub target-refuses : (good : Bool) (w handle register : ℕ) (s : Status) → target good w handle register ≡ Refused s → s ≡ successful → ⊥
+unfolding target
+target-refuses good w handle register s = by good (fits w register)
+  where
+    by : (b f : Bool) → cond b (cond f (Function (handle - 1)) (Refused badRegisterNumber)) (Refused badHandle) ≡ Refused s → s ≡ successful → ⊥
+    by true true e g = let z : _≡_ {A = ℕ} 0 1 = cc in omega arith
+    by true false e g = let z : _≡_ {A = ℕ} 0 1 = cc (ap (λ (x : Status). x .0) g) in omega arith
+    by false f e g = let z : _≡_ {A = ℕ} 0 1 = cc (ap (λ (x : Status). x .0) g) in omega arith
+
+-- THEOREM: no accepted access passes the last register
+pub inside-registers : InsideRegisters
+inside-registers good w handle register i e =
+    leb-true (register + w) registersEach (both-true (eqb (register % w) 0) _ (target-accepts good w handle register i e .1 .1) .1)

@@ -1,0 +1,7 @@
+-- The definitions that contracts cite, and the statements about them.
+pub mod Target
+pub mod Read
+pub mod Write
+pub mod Search
+pub mod Steps
+pub mod Meaning

@@ -1,0 +1,90 @@
+-- What configuration calls and searches mean, without the proofs.
+use Prim.Native.Nat.{ℕ, zero, suc, _+_, _-_, _*_, _/_, _%_, _^_, _<_, _≤_}
+use mathlib.Core.Bool.{Bool, true, false, cond, _&&_}
+use mathlib.Core.List.{List}
+use mathlib.Core.Logic.{_↔_}
+use mathlib.Core.Path.{_≡_}
+use lib.Dec.{eqb, leb, ltb}
+use lib.ListN.{length, getD}
+use Rattle.board.specs.Handles.{isHandle}
+use Rattle.board.specs.Layout.{registersEach, maskByte, registerByte}
+use Rattle.board.specs.Statuses.{successful, deviceNotFound}
+use Rattle.window_list.specs.Kept.{keptList}
+use Rattle.window_list.specs.Meaning.{Watched}
+use Rattle.window_list.specs.Windows.{windowList}
+use Rattle.config.specs.declared.search.Search.the-variants.{Found, Refused}
+use Rattle.config.specs.declared.target.Target.the-variants.{Function}
+use Rattle.config.specs.Target.{target}
+use Rattle.config.specs.Read.{readConfig, fastReadConfig}
+use Rattle.config.specs.Write.{written, bytesWritten, movesWindows, writeConfig}
+use Rattle.config.specs.Search.{bit, matching, searched}
+
+-- no accepted access passes FFh
+abbrev pub InsideRegisters : Type 0
+InsideRegisters = (good : Bool) (w handle register i : ℕ) → target good w handle register ≡ Function i → register + w ≤ registersEach
+
+-- bit by bit: the written bit where the mask has 1, else the one that stood there
+abbrev pub MaskedBits : Type 0
+MaskedBits =
+    (register mask old new b : ℕ) → mask < 256 → b < 8
+    → bit b (written register mask old new) ≡ cond (bit b mask) (bit b new) (bit b old)
+
+-- register `at` of the function at place j after w bytes are written: each addressed byte follows its own mask, and nothing else changes
+pub record WrittenThrough (w : ℕ) (records : List ℕ) (i register value : ℕ) (registers : List ℕ) : Type 0 where
+  pub room : length (bytesWritten w records i register value registers) ≡ length registers
+  pub byte : (j at : ℕ) → at < registersEach
+      → registerByte (bytesWritten w records i register value registers) j at
+      ≡ cond (eqb j i && (leb register at && ltb at (register + w)))
+      (written at (maskByte records i at) (registerByte registers i at) (value / 256 ^ (at - register) % 256))
+      (registerByte registers j at)
+
+abbrev pub MaskedWrite : Type 0
+MaskedWrite =
+    (w : ℕ) (records : List ℕ) (i register value : ℕ) (registers : List ℕ)
+    → register + w ≤ registersEach → registersEach * (i + 1) ≤ length registers
+    → WrittenThrough w records i register value registers
+
+-- a write to read-only bits succeeds: it gives 0 and leaves the registers
+abbrev pub ReadOnly : Type 0
+ReadOnly =
+    (w : ℕ) (header records registers windows : List ℕ) (handle register value i : ℕ)
+    → target (isHandle header handle) w handle register ≡ Function i
+    → ((at : ℕ) → getD registers at 0 < 256)
+    → ((d : ℕ) → d < w → maskByte records i (register + d) ≡ 0)
+    → (writeConfig w header records registers windows handle register value .status ≡ successful)
+    × (writeConfig w header records registers windows handle register value .registers ≡ registers)
+
+-- the list is worked out anew exactly where a byte of 04h or 10h-27h is addressed
+abbrev pub MovesWindows : Type 0
+MovesWindows = (w register : ℕ) → 0 < w → (movesWindows w register ≡ true) ↔ ((d : ℕ) × (d < w) × Watched (register + d))
+
+-- a kept list that is the list of its board stays so
+abbrev pub ListFollows : Type 0
+ListFollows =
+    (w : ℕ) (header records registers windows : List ℕ) (handle register value : ℕ)
+    → windows ≡ keptList (windowList header records registers)
+    → writeConfig w header records registers windows handle register value .windows
+    ≡ keptList (windowList header records (writeConfig w header records registers windows handle register value .registers))
+
+-- an accepted fast read equals the plain read; a refused one is refused as the plain read is, and gives all ones of its width
+abbrev pub FastRead : Type 0
+FastRead =
+    (w : ℕ) (header registers : List ℕ) (handle register : ℕ)
+    → ((fastReadConfig w header registers handle register .fault ≡ false) ↔ (readConfig w header registers handle register .status ≡ successful))
+    × ((fastReadConfig w header registers handle register .fault ≡ false
+    → fastReadConfig w header registers handle register .value ≡ readConfig w header registers handle register .value)
+    × (fastReadConfig w header registers handle register .fault ≡ true → fastReadConfig w header registers handle register .value ≡ 256 ^ w - 1))
+
+-- how many of the first n places match
+unfoldable pub matchesBefore : (ℕ → Bool) → ℕ → ℕ
+matchesBefore m zero = 0
+matchesBefore m (suc n) = matchesBefore m n + cond (m n) 1 0
+
+-- index n gives the match with exactly n matches before it in table order, -4 exactly if there are n or fewer matches
+pub record Indexed (m : ℕ → Bool) (count n : ℕ) : Type 0 where
+  pub found : (i : ℕ)
+      → (searched (matching m 0 count) n ≡ Found (i + 1)) ↔ ((i < count) × ((m i ≡ true) × (matchesBefore m i ≡ n)))
+  pub missing : (searched (matching m 0 count) n ≡ Refused deviceNotFound) ↔ (matchesBefore m count ≤ n)
+
+abbrev pub IndexRule : Type 0
+IndexRule = (m : ℕ → Bool) (count n : ℕ) → Indexed m count n

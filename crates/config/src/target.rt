@@ -1,0 +1,39 @@
+// The checks of a configuration call: which function it is for.
+use board::handle::is_handle;
+use board::layout::Header;
+use board::number::Width;
+use board::status::Status;
+ghost use mathlib.Core.Path.{_≡_};
+ghost use Rattle.board.specs.Handles.{isHandle};
+ghost use Rattle.board.specs.Numbers.{bytes};
+ghost use Rattle.config.specs.Target.{fits, target};
+
+// The function at a place, from 0, or the refusal.
+pub enum Target {
+    Function(u32),
+    Refused(Status),
+}
+
+// Whether an access of a width may stand at a register; as the number is a byte, none that is aligned passes the last register.
+fn fits(register: u8, width: Width) -> bool
+    ensures { λ r. ⌜ r ≡ fits (bytes width) register ⌝ }
+{
+    match width {
+        Width::Byte => true,
+        Width::Word => register % 2 == 0,
+        Width::Long => register % 4 == 0,
+    }
+}
+
+// The function that an access through a handle is for.
+pub(crate) fn target_of(header: &Header, width: Width, handle: u32, register: u8) -> Target
+    ensures { λ r. ⌜ r ≡ target (isHandle (now (header .entry)) handle) (bytes width) handle register ⌝ }
+{
+    if !is_handle(header, handle) {
+        return Target::Refused(Status::BAD_HANDLE);
+    }
+    if !fits(register, width) {
+        return Target::Refused(Status::BAD_REGISTER_NUMBER);
+    }
+    Target::Function(handle - 1)
+}
