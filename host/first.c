@@ -1,4 +1,5 @@
-/* A first use from C: loads the image on standard input, lists its memory windows, and writes the board back. */
+/* A first use from C: loads the image on standard input, finds its two cards, moves the second one's memory window onto
+   the first one's and back, with a list of the memory windows each time, and writes the board back. */
 #include <inttypes.h>
 #include <stdio.h>
 #include "pci_bios.h"
@@ -6,17 +7,32 @@
 static struct pci_board board;
 static uint8_t image[65537], cells[65536], out[65536];
 
-int main(void) {
-    uint32_t place;
-    size_t length = fread(image, 1, sizeof image, stdin);
-    int32_t number = pci_load(&board, cells, sizeof cells, image, length, &place);
-    printf("load %" PRId32 "\n", number);
-
+static void list_memory(void) {
     struct pci_window window;
     for (uint32_t n = 0; pci_list_window(&board, n, &window) == 0; n++)
         if (!window.io)
-            printf("memory %08" PRIx32 ", %" PRIu32 " bytes, handle %" PRIu32 "\n", window.start, window.length,
-                   window.handle);
+            printf("memory %08" PRIx32 ", %" PRIu32 " bytes, handle %" PRIu32 ", %s\n", window.start, window.length,
+                   window.handle, window.contested ? "contested" : "clear");
+}
+
+int main(void) {
+    uint32_t place, first_start, second_start;
+    size_t length = fread(image, 1, sizeof image, stdin);
+    int32_t number = pci_load(&board, cells, sizeof cells, image, length, &place);
+    printf("load %" PRId32 "\n", number);
+    list_memory();
+
+    /* A card that is not found has a negative number, and no call takes that for a handle. */
+    int32_t first = pci_find_device(&board, 0x00010F0F, 0);
+    int32_t second = pci_find_device(&board, 0x00010F0F, 1);
+    printf("found %" PRId32 " and %" PRId32 "\n", first, second);
+    pci_read_config(&board, 4, first, 0x10, &first_start);
+    pci_read_config(&board, 4, second, 0x10, &second_start);
+
+    printf("moved %" PRId32 "\n", pci_write_config(&board, 4, second, 0x10, first_start));
+    list_memory();
+    printf("moved back %" PRId32 "\n", pci_write_config(&board, 4, second, 0x10, second_start));
+    list_memory();
 
     printf("written %" PRId32 "\n", pci_write_image(&board, out, sizeof out));
     return number != 0;

@@ -9,6 +9,14 @@ int32_t bios_reset(const uint32_t *header, const uint8_t *records, uint8_t *regi
                    const uint32_t *cell_offsets, uint32_t *hooks, uint32_t *used, uint8_t *cells, size_t cells_length);
 uint32_t bios_write_image(const uint32_t *header, const uint8_t *records, uint8_t *out, size_t length);
 int32_t bios_list_window(const uint64_t *windows, uint32_t n, uint64_t *values);
+int32_t bios_find_pci_device(const uint32_t *header, const uint8_t *registers, uint32_t id, uint32_t index);
+int32_t bios_find_pci_classcode(const uint32_t *header, const uint8_t *registers, uint32_t class_code, uint32_t index);
+int32_t bios_read_config(const uint32_t *header, const uint8_t *registers, uint32_t width, uint32_t handle, uint8_t reg,
+                         uint32_t *value);
+uint32_t bios_fast_read_config(const uint32_t *header, const uint8_t *registers, uint32_t width, uint32_t handle,
+                               uint8_t reg, uint32_t *fault);
+int32_t bios_write_config(const uint32_t *header, const uint8_t *records, uint8_t *registers, uint64_t *windows,
+                          uint32_t width, uint32_t handle, uint8_t reg, uint32_t value);
 
 int32_t pci_check_image(const uint8_t *image, size_t length, uint32_t *place) {
     return (int32_t)bios_check_image(image, length, SIZE_MAX, place);
@@ -39,4 +47,28 @@ int32_t pci_list_window(const struct pci_board *board, uint32_t n, struct pci_wi
     window->base = (uint32_t)values[4];
     window->contested = (int)values[5];
     return number;
+}
+
+int32_t pci_find_device(const struct pci_board *board, uint32_t id, uint32_t index) {
+    return bios_find_pci_device(board->header, board->registers, id, index);
+}
+
+int32_t pci_find_class(const struct pci_board *board, uint32_t class_code, uint32_t index) {
+    return bios_find_pci_classcode(board->header, board->registers, class_code, index);
+}
+
+int32_t pci_read_config(const struct pci_board *board, unsigned width, uint32_t handle, uint8_t reg, uint32_t *value) {
+    return bios_read_config(board->header, board->registers, width, handle, reg, value);
+}
+
+uint32_t pci_fast_read_config(const struct pci_board *board, unsigned width, uint32_t handle, uint8_t reg, int *fault) {
+    uint32_t flag;
+    uint32_t value = bios_fast_read_config(board->header, board->registers, width, handle, reg, &flag);
+    *fault = (int)flag;
+    return value;
+}
+
+int32_t pci_write_config(struct pci_board *board, unsigned width, uint32_t handle, uint8_t reg, uint32_t value) {
+    return bios_write_config(board->header, board->records, board->registers, board->windows, width, handle, reg,
+                             value);
 }

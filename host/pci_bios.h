@@ -41,4 +41,25 @@ int32_t pci_write_image(const struct pci_board *board, uint8_t *out, size_t leng
 /* Window n of the list, from 0: 0, or -4 and zeros past the end. */
 int32_t pci_list_window(const struct pci_board *board, uint32_t n, struct pci_window *window);
 
+/* The handle of the match with `index` matches before it, or -4 where there are no more. An ID is the device in bits
+   31..16 and the vendor in 15..0; vendor FFFFh matches every function, whatever the device. */
+int32_t pci_find_device(const struct pci_board *board, uint32_t id, uint32_t index);
+
+/* The same for a class code in bits 23..0; bits 26, 25, 24 set mean ignore its base class, sub class, interface. */
+int32_t pci_find_class(const struct pci_board *board, uint32_t class_code, uint32_t index);
+
+/* Configuration calls: the width is 1, 2 or 4 bytes, least byte first. Their refusals, the first that applies:
+   -8 another width, -9 a bad handle, -5 a register that is not a multiple of the width. */
+
+/* The value of a register: 0, or a refusal and the value 0. */
+int32_t pci_read_config(const struct pci_board *board, unsigned width, uint32_t handle, uint8_t reg, uint32_t *value);
+
+/* The value itself, with fault 0; where the read is refused all ones of its width, with fault 1. Another width than
+   1, 2 or 4 gives FFFFFFFFh. */
+uint32_t pci_fast_read_config(const struct pci_board *board, unsigned width, uint32_t handle, uint8_t reg, int *fault);
+
+/* Writes the low bytes of the value where the masks have 1: 0, also where none has, or a refusal that changes nothing.
+   Writes to 04h and 10h-27h open, close and move windows; the list then shows it. */
+int32_t pci_write_config(struct pci_board *board, unsigned width, uint32_t handle, uint8_t reg, uint32_t value);
+
 #endif

@@ -1,3 +1,4 @@
 -- The laws that proofs here cite.
 pub mod Signed
+pub mod Found
 pub mod Arms

@@ -5,11 +5,12 @@ use mathlib.Core.Bool.{Bool, true, false, not, cond}
 use mathlib.Core.Path.{_≡_, refl}
 use lib.Dec.{eqb}
 use lib.IntN.{ℤ, pos, negsuc}
-use borrow.Author.Tests.{ne-eqb, lt-ltb}
+use lib.Signed.{ltZ}
+use borrow.Author.Tests.{ne-eqb, lt-ltb, le-ltb}
 use mir.Syntax.{w32}
 use mir.Val.{SFits, toZ, ofZ, boolByte}
 use mir.Facts.{toZ-ofZ}
-use Rattle.reference.specs.Answers.{refuses}
+use Rattle.reference.specs.Answers.{refuses, below}
 
 -- a small number is its own signed reading
 pub small : (n : ℕ) → n < 256 → toZ w32 n ≡ pos n
@@ -28,6 +29,11 @@ bits-refuse (pos n) f = number-refuses n
 bits-refuse (negsuc n) f =
     let h = f .sfits in
     rw (ne-eqb (2 ^ 32 - suc n) 0 (λ e. omega (arith, h)))
+
+-- what is below 0 refuses a search
+pub below-is : (z : ℤ) → ltZ z (pos 0) ≡ below z
+below-is (pos n) = le-ltb n 0 (omega arith)
+below-is (negsuc n) = refl
 
 pub bool-number : (t : Bool) → boolByte t ≡ cond t 1 0
 bool-number true = refl

@@ -1,11 +1,24 @@
 -- What the calls for C hand back, as one value each.
 use Prim.Native.Nat.{ℕ}
+use mathlib.Core.Bool.{cond, true}
 use mathlib.Core.List.{List}
+use lib.Dec.{eqb}
 use lib.IntN.{ℤ}
+use Rattle.board.specs.Numbers.{bytes}
+use Rattle.board.specs.Statuses.{generalError}
+use Rattle.board.specs.declared.number.Width.the-variants.{Byte, Word, Long}
 use Rattle.board.specs.declared.status.Status.{Status}
 use Rattle.window_list.specs.Windows.{Window}
 use Rattle.window_list.specs.Listing.{listedNumber, listedValues}
+use Rattle.config.specs.Read.{readConfig, fastReadConfig}
+use Rattle.config.specs.Write.{Wrote, wrote, writeConfig}
+use Rattle.config.specs.declared.read.ConfigRead.{ConfigRead}
+use Rattle.config.specs.declared.read.FastConfigRead.{FastConfigRead}
+use Rattle.config.specs.declared.search.Search.{Search}
+use Rattle.config.specs.declared.search.Search.the-variants.{Found, Refused}
 use Rattle.image.specs.declared.check.Verdict.{Verdict}
+use Rattle.bios.specs.declared.config_exports.AskedWidth.{AskedWidth}
+use Rattle.bios.specs.declared.config_exports.AskedWidth.the-variants.{Known, Other}
 
 abbrev pub verdict : ℕ → ℕ → Verdict
 verdict number place = record { number = number; place = place }
@@ -24,3 +37,39 @@ shown number values = record { number = number; values = values }
 -- window n of a list: space (1 for I/O), start, length, handle, base register, contested; zeros past the end
 abbrev pub shownWindow : List Window → ℕ → Shown
 shownWindow l n = shown (listedNumber l n) (listedValues l n)
+
+-- the handle that a search found, 0 for none
+abbrev pub handleFound : Search → ℕ
+handleFound (Found handle) = handle
+handleFound (Refused status) = 0
+
+-- a width for C: 1, 2 or 4; another is refused with -8, and a fast read of it gives all ones
+abbrev pub widthOf : ℕ → AskedWidth
+widthOf w = cond (eqb w 1) (Known Byte) (cond (eqb w 2) (Known Word) (cond (eqb w 4) (Known Long) Other))
+
+abbrev pub readNumbers : ℤ → ℕ → ConfigRead
+readNumbers number value = record { status = status number; value = value }
+
+abbrev pub askedRead : AskedWidth → List ℕ → List ℕ → ℕ → ℕ → ConfigRead
+askedRead (Known width) header registers handle register = readConfig (bytes width) header registers handle register
+askedRead Other header registers handle register = record { status = generalError; value = 0 }
+
+abbrev pub askedFastRead : AskedWidth → List ℕ → List ℕ → ℕ → ℕ → FastConfigRead
+askedFastRead (Known width) header registers handle register = fastReadConfig (bytes width) header registers handle register
+askedFastRead Other header registers handle register = record { value = 0xFFFFFFFF; fault = true }
+
+abbrev pub askedWrite : AskedWidth → List ℕ → List ℕ → List ℕ → List ℕ → ℕ → ℕ → ℕ → Wrote
+askedWrite (Known width) header records registers windows handle register value =
+    writeConfig (bytes width) header records registers windows handle register value
+askedWrite Other header records registers windows handle register value = wrote generalError registers windows
+
+-- a fast read as two numbers: the fault flag is 1 where it is set
+pub record Fast : Type 0 where
+  pub value : ℕ
+  pub fault : ℕ
+
+abbrev pub fastNumbers : ℕ → ℕ → Fast
+fastNumbers value fault = record { value = value; fault = fault }
+
+abbrev pub fastShown : FastConfigRead → Fast
+fastShown r = fastNumbers (r .value) (cond (r .fault) 1 0)

@@ -1,5 +1,5 @@
 // Calls for C: numbers and lent memory in, numbers out. A slice is a pointer and a length, an array or a place for a number is a pointer.
-use crate::perform::of_listing;
+use crate::answer::of_listing;
 use board::layout::CellOffsets;
 use board::layout::Header;
 use board::layout::Hooks;

@@ -13,24 +13,19 @@ use board::layout::Records;
 use board::layout::Registers;
 use board::layout::WINDOWS;
 use board::layout::Windows;
+use board::number::put_byte;
 use window_list::listing::list_window;
 use window_list::refresh::refresh;
 
-fn put(s: &mut [u8], at: usize, v: u8) {
-    if at < s.len() {
-        s[at] = v;
-    }
-}
-
 // Puts a longword, least byte first.
-fn put_long(s: &mut [u8], at: usize, v: u32) {
+pub(crate) fn put_long(s: &mut [u8], at: usize, v: u32) {
     if s.len() <= at {
         return;
     }
-    put(s, at, (v % 256) as u8);
-    put(s, at + 1, (v / 256 % 256) as u8);
-    put(s, at + 2, (v / 65536 % 256) as u8);
-    put(s, at + 3, (v / 16777216) as u8);
+    put_byte(s, at, (v % 256) as u8);
+    put_byte(s, at + 1, (v / 256 % 256) as u8);
+    put_byte(s, at + 2, (v / 65536 % 256) as u8);
+    put_byte(s, at + 3, (v / 16777216) as u8);
 }
 
 // One number a window, by its hexadecimal digits: handle (2), command (1), base register (1), length exponent (2), value (8).
@@ -54,12 +49,13 @@ fn set(records: &mut Records, registers: &mut Registers, window: u64) {
     let k = (window / EXPONENTS % 256) as u8;
     let command = (window / COMMANDS % 16) as u8;
     let value = (window % EXPONENTS) as u32;
-    put(records, record + (ENTRIES as usize + ENTRY as usize * b), k);
-    put(registers, first + COMMAND as usize, command);
+    put_byte(records, record + (ENTRIES as usize + ENTRY as usize * b), k);
+    put_byte(registers, first + COMMAND as usize, command);
     put_long(registers, first + (BASE_0 as usize + 4 * b), value);
 }
 
-fn build(windows: &[u64], records: &mut Records, registers: &mut Registers) {
+// Sets what the windows of a board need.
+pub(crate) fn build(windows: &[u64], records: &mut Records, registers: &mut Registers) {
     let mut j = 0;
     while j < windows.len() {
         set(records, registers, windows[j]);
@@ -68,7 +64,7 @@ fn build(windows: &[u64], records: &mut Records, registers: &mut Registers) {
 }
 
 // The windows of a kept list, and the number past its end.
-fn show(list: &Windows) {
+pub(crate) fn show(list: &Windows) {
     let mut n = 0;
     while n < 100 {
         if !answer(list_window(list, n)) {
@@ -78,24 +74,17 @@ fn show(list: &Windows) {
     }
 }
 
-// A row with the window list of a board after one of its windows has moved, and the number past its end.
-pub(crate) fn case_moved(name: &[u8], count: u32, windows: &[u64], moved: u64, sentence: &[u8]) {
+// A row with the window list of a board.
+pub(crate) fn case(name: &[u8], count: u32, windows: &[u64], sentence: &[u8]) {
     let header = [count, 0, 0, 0];
     let mut records = [0u8; FUNCTIONS * RECORD];
     let mut registers = [0u8; FUNCTIONS * REGISTER_BYTES];
     let mut list = [0u64; WINDOWS];
     build(windows, &mut records, &mut registers);
     refresh(&header, &records, &registers, &mut list);
-    set(&mut records, &mut registers, moved);
-    refresh(&header, &records, &registers, &mut list);
     begin(name);
     show(&list);
     end(sentence);
-}
-
-// A row with the window list of a board; 0 moves no window.
-pub(crate) fn case(name: &[u8], count: u32, windows: &[u64], sentence: &[u8]) {
-    case_moved(name, count, windows, 0, sentence);
 }
 
 // All 96 windows of 64 KB each, the first base register of the first function at the highest start.

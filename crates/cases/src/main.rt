@@ -1,5 +1,7 @@
 // Cases of document 01, a row each: what is asked, the answer, and the sentence that gives it. The stored output was written from document 01.
+mod b1;
 mod boards;
+mod configuration;
 mod rows;
 mod vocabulary;
 mod windows;
@@ -17,4 +19,9 @@ fn main() {
     windows::ends();
     windows::altered();
     windows::full();
+    configuration::devices();
+    configuration::classes();
+    configuration::reads();
+    configuration::writes();
+    configuration::moves();
 }

@@ -1,7 +1,6 @@
 // The window list of small boards: which windows are open, where they stand, which are contested.
 use crate::boards::case;
 use crate::boards::case_full;
-use crate::boards::case_moved;
 
 // The functions there are.
 pub(crate) fn there() {
@@ -89,28 +88,6 @@ pub(crate) fn placed() {
 
 // Which windows are contested.
 pub(crate) fn contested() {
-    case_moved(
-        b"P11, 80000000h to 10h of handle 2",
-        2,
-        &[
-            0x1_3_0_0a_80000000,
-            0x2_3_0_0a_80000400,
-            0x2_3_1_04_00000101,
-        ],
-        0x2_3_0_0a_80000000,
-        b"both memory windows contested",
-    );
-    case_moved(
-        b"P11, 80000400h written back",
-        2,
-        &[
-            0x1_3_0_0a_80000000,
-            0x2_3_0_0a_80000000,
-            0x2_3_1_04_00000101,
-        ],
-        0x2_3_0_0a_80000400,
-        b"writing 80000400h clears both",
-    );
     case(
         b"a long window over two short ones",
         2,

@@ -81,5 +81,5 @@ list-follows w header records registers windows handle register value e = by (ta
     by : (t : Target) → target (isHandle header handle) w handle register ≡ t
         → writeTo header records registers windows w register value t .windows
         ≡ keptList (windowList header records (writeTo header records registers windows w register value t .registers))
-    by (Refused s) f = e
+    by (Refused s) f = cc e
     by (Function i) f = list-after w header records registers windows i register value (inside-registers _ w handle register i f) e

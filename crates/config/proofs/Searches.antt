@@ -1,16 +1,19 @@
--- Searches: a turn of the walk over the functions, and index n as the match with n matches before it.
-use Prim.Native.Nat.{ℕ, zero, suc, _+_, _-_, _<_, _≤_}
+-- Searches: what they depend on, a turn of the walk over the functions, and index n as the match with n matches before it.
+use Prim.Native.Nat.{ℕ, zero, suc, _+_, _-_, _%_, _<_, _≤_}
 use native.Mathlib.Nat.{add-zero, zero-add, add-suc}
 use native.Mathlib.Numerals.{add-one}
 use native.Mathlib.Omega.{arith}
 use mathlib.Core.Bool.{Bool, true, false, cond}
 use mathlib.Core.List.{List, [], _∷_}
 use mathlib.Core.Logic.{_⊎_, inl, inr, ⊎-elim}
-use mathlib.Core.Path.{_≡_, refl, ap, _∙_}
+use mathlib.Core.Path.{_≡_, refl, _∙_, ap}
+use Rattle.board.specs.Layout.{registersEach}
+use Rattle.board.specs.Numbers.{little}
 use Rattle.board.specs.Statuses.{deviceNotFound}
+use Rattle.board.proofs.Numbers.{little-same}
 use Rattle.config.specs.declared.search.Search.{Search}
 use Rattle.config.specs.declared.search.Search.the-variants.{Found, Refused}
-use Rattle.config.specs.Search.{matching, searched, foundNumber, searchNumber, Finds}
+use Rattle.config.specs.Search.{deviceMatches, classMatches, matching, searched, foundNumber, searchNumber, Finds}
 use Rattle.config.specs.Meaning.{matchesBefore, Indexed, IndexRule}
 
 -- the number of the answer at an index is the number that document 01 gives it
@@ -22,6 +25,22 @@ search-number (h ∷ hs) (suc n) = search-number hs n
 
 pub finds : (hs : List ℕ) (n : ℕ) (r : Search) → r ≡ searched hs n → Finds hs n r
 finds hs n r e = record { answer = e; number = ap foundNumber e ∙ search-number hs n }
+
+-- a search depends on the functions that it looks at
+pub matching-same : (m m′ : ℕ → Bool) (i n : ℕ) → ((j : ℕ) → j < i + n → m j ≡ m′ j) → matching m i n ≡ matching m′ i n
+unfolding matching
+matching-same m m′ i zero e = refl
+matching-same m m′ i (suc n) e = rw (e i (omega arith), matching-same m m′ (i + 1) n (λ j h. e j (omega arith)))
+
+-- and a match on the function's registers
+pub device-same : (id : ℕ) (f g : ℕ → ℕ) → ((at : ℕ) → at < registersEach → f at ≡ g at) → deviceMatches id f ≡ deviceMatches id g
+device-same id f g e = rw (number 0 (omega arith), number 2 (omega arith))
+  where
+    number : (at : ℕ) → at < 4 → little 2 f at ≡ little 2 g at
+    number at h = little-same 2 f g at at (λ i l. ap (λ b. b % 256) (e (at + i) (omega arith)))
+
+pub class-same : (class : ℕ) (f g : ℕ → ℕ) → ((at : ℕ) → at < registersEach → f at ≡ g at) → classMatches class f ≡ classMatches class g
+class-same class f g e = rw (e 0x0B (omega arith), e 0x0A (omega arith), e 0x09 (omega arith))
 
 module _ (m : ℕ → Bool) where
   -- a turn at place i, where one function and the rest are left: found, a match that is counted, no match

@@ -29,10 +29,12 @@ fn fits(register: u8, width: Width) -> bool
 pub(crate) fn target_of(header: &Header, width: Width, handle: u32, register: u8) -> Target
     ensures { λ r. ⌜ r ≡ target (isHandle (now (header .entry)) handle) (bytes width) handle register ⌝ }
 {
-    if !is_handle(header, handle) {
+    let good = is_handle(header, handle);
+    let fitting = fits(register, width);
+    if !good {
         return Target::Refused(Status::BAD_HANDLE);
     }
-    if !fits(register, width) {
+    if !fitting {
         return Target::Refused(Status::BAD_REGISTER_NUMBER);
     }
     Target::Function(handle - 1)

@@ -1,32 +1,38 @@
 -- Claim 3: what a call may not touch is equal before and after it.
-use Prim.Native.Nat.{ℕ, _+_, _*_, _-_, _≤_}
+use Prim.Native.Nat.{ℕ, zero, suc, _+_, _*_, _-_, _/_, _≤_}
 use native.Mathlib.Omega.{arith}
+use native.Mathlib.Nat.{zero-add, add-zero}
+use native.Mathlib.Numerals.{add-one}
 use mathlib.Core.Bool.{Bool, true, false, false≢true}
 use mathlib.Core.Path.{_≡_, refl, sym, _∙_, ap}
 use mathlib.Core.List.{List, _++_}
-use lib.Dec.{ltb, eqb}
+use lib.Dec.{ltb, eqb, eqb·suc-suc}
 use lib.ListN.{length, getD, drop, length-append, length-drop}
 use lib.Seq.{getD-append-add, getD-drop}
 use borrow.Author.Tests.{ltb-false, eqb-true}
+use Rattle.board.specs.Parts.{Parts}
 use Rattle.board.specs.Layout.{functionsMax, registersEach, markSize}
-use Rattle.board.specs.Tables.{table}
+use Rattle.board.specs.Tables.{tableFrom, table}
 use Rattle.board.proofs.Tables.{table-length}
+use Rattle.config.specs.Write.{movesWindows}
 use Rattle.image.specs.Cells.{total, zeroed}
 use Rattle.image.specs.Image.{imageSize, sum, trailer}
 use Rattle.image.proofs.Lists.{zeroed-length, zeroed-past, trailer-length}
 use Rattle.image.proofs.Accepted.{accepted-image}
 use Rattle.reference.specs.declared.Answer.{Answer}
 use Rattle.reference.specs.declared.Call.{Call}
-use Rattle.reference.specs.declared.Call.the-variants.{Load, Reset, WriteImage, ListWindow}
+use Rattle.reference.specs.declared.Call.the-variants.{Load, Reset, WriteImage, FindPciDevice, FindPciClasscode, ReadConfig, FastReadConfig, WriteConfig, ListWindow}
 use Rattle.reference.specs.Answers.{answer}
 use Rattle.reference.specs.State.{next}
-use Rattle.reference.specs.Reference.{Reference, Told, told, exponentOf, joined, imageBytes, verdict, referenceStep, referenceStart}
+use Rattle.reference.specs.Reference.{Reference, Told, told, exponentOf, joined, imageBytes, targetOf, writeOf, verdict, referenceStep, referenceStart}
 use Rattle.reference.specs.Run.{Asked, stepOn, referenceAfter, partsOf}
-use Rattle.reference.specs.Claims.{Touch, every, mayTouch, Alike, Framed, Frame}
-use Rattle.reference.proofs.Tests.{ifTest}
+use Rattle.reference.specs.Claims.{Touch, none, every, touch, addressed, mayTouch, Alike, Framed, Frame}
+use Rattle.reference.proofs.Tests.{ifTest, ifTarget}
 use Rattle.reference.proofs.Records.{joined-length}
 use Rattle.reference.proofs.Same.{image-total, verdict-same}
-use Rattle.reference.proofs.Simulation.{Sound, same, sound-start, start-same}
+use Rattle.reference.proofs.Sound.{Sound}
+use Rattle.reference.proofs.Configuration.{left, follows, writes}
+use Rattle.reference.proofs.Simulation.{same, sound-start, start-same}
 use Rattle.reference.proofs.Refinement.{goes}
 
 alike : (t : ℕ → Bool) (l : List ℕ) → Alike t l l
@@ -61,9 +67,16 @@ keeps t b own a = own-only t b own own a (alike (t .own) own)
 zeroed-alike : (n : ℕ) (cells : List ℕ) → n ≤ length cells → Alike (λ i. ltb i n) (zeroed n cells) cells
 zeroed-alike n cells h = record { room = zeroed-length n cells h; same = λ i e. zeroed-past n cells i (ltb-false i n e) }
 
--- two tables of a length
-table-alike : (n : ℕ) (f g : ℕ → ℕ) → Alike every (table n f) (table n g)
-table-alike n f g = record { room = table-length 0 n f ∙ sym (table-length 0 n g); same = λ i e. touched e }
+-- two tables of a length, whose functions agree where no touch is allowed
+table-alike : (t : ℕ → Bool) (n : ℕ) (f g : ℕ → ℕ) → ((j : ℕ) → t j ≡ false → f j ≡ g j) → Alike t (table n f) (table n g)
+unfolding tableFrom
+table-alike t n f g e =
+    record { room = table-length 0 n f ∙ sym (table-length 0 n g); same = λ j u. agree 0 n j (rw (zero-add j) (e j u)) }
+  where
+    agree : (i m j : ℕ) → f (i + j) ≡ g (i + j) → getD (tableFrom i m f) j 0 ≡ getD (tableFrom i m g) j 0
+    agree i zero j d = refl
+    agree i (suc m) zero d = rw (add-zero i) at d
+    agree i (suc m) (suc j) d = let k : suc i + j ≡ i + suc j = omega arith in agree (suc i) m j (rw k d)
 
 -- an image put to the front of an own buffer
 front-alike : (n : ℕ) (image own : List ℕ) → length image ≡ n → n ≤ length own → Alike (λ i. ltb i n) (image ++ drop n own) own
@@ -80,6 +93,10 @@ front-alike n image own e h =
         ap (λ j. getD (image ++ drop n own) j 0) a ∙ getD-append-add image (drop n own) (i - n) 0 ∙ getD-drop n own (i - n) 0
         ∙ ap (λ j. getD own j 0) c
 
+-- what a write of w registers may touch
+abbrev writeTouch : ℕ → ℕ → ℕ → Touch
+writeTouch w handle register = touch false (addressed w handle register) (movesWindows w register) false none none none
+
 module _ (b : Reference) (s : Sound b) (own : List ℕ) where
   stays-load : Stays (mayTouch b Load own) b own (referenceStep b Load own)
   unfolding mayTouch referenceStep partsOf
@@ -92,10 +109,10 @@ module _ (b : Reference) (s : Sound b) (own : List ℕ) where
         header = λ t. touched t;
         records = λ t. touched t;
         offsets = λ t. touched t;
-        registers = table-alike (functionsMax * registersEach) _ _;
+        registers = table-alike every (functionsMax * registersEach) _ _ (λ j u. touched u);
         list = λ t. touched t;
         hooks = λ t. touched t;
-        used = table-alike (functionsMax * markSize) _ _;
+        used = table-alike every (functionsMax * markSize) _ _ (λ j u. touched u);
         cells = zeroed-alike _ (b .cells) (rw (image-total own) (a .fine .fits));
         own = alike _ own;
       })
@@ -111,10 +128,10 @@ module _ (b : Reference) (s : Sound b) (own : List ℕ) where
         header = λ t. refl;
         records = λ t. refl;
         offsets = λ t. refl;
-        registers = table-alike (functionsMax * registersEach) _ _;
+        registers = table-alike every (functionsMax * registersEach) _ _ (λ j u. touched u);
         list = λ t. touched t;
         hooks = λ t. touched t;
-        used = table-alike (functionsMax * markSize) _ _;
+        used = table-alike every (functionsMax * markSize) _ _ (λ j u. touched u);
         cells = zeroed-alike _ (b .cells) (s .fits);
         own = alike _ own;
       })
@@ -135,11 +152,46 @@ module _ (b : Reference) (s : Sound b) (own : List ℕ) where
       (λ z. keeps (mayTouch b WriteImage own) b own _)
       (λ z. own-only (mayTouch b WriteImage own) b own _ _ (front-alike _ (imageBytes (b .records)) own image-length (ltb-false (length own) _ e))))
 
+  -- a write that addresses none of the list's bytes
+  list-left : (w handle register value : ℕ) → movesWindows w register ≡ false
+      → partsOf (writeOf b w register value own (targetOf b w handle register) .reference) .windows ≡ partsOf b .windows
+  list-left w handle register value m =
+      sym (ap (λ (q : Parts). q .windows) (writes b s w handle register value own .parts)) ∙ sym (follows b s w handle register value)
+      ∙ ifTarget (λ t. left b w register value t .windows ≡ partsOf b .windows) (length (b .records)) w handle register (λ i h e k. rw m) refl refl
+
+  stays-written : (w handle register value : ℕ)
+      → Stays (writeTouch w handle register) b own (writeOf b w register value own (targetOf b w handle register))
+  unfolding partsOf
+  stays-written w handle register value =
+      let t = writeTouch w handle register in
+      ifTarget (λ g. (movesWindows w register ≡ false → partsOf (writeOf b w register value own g .reference) .windows ≡ partsOf b .windows)
+      → Stays t b own (writeOf b w register value own g))
+      (length (b .records)) w handle register
+      (λ i h e k l.
+      record {
+        header = λ u. refl;
+        records = λ u. refl;
+        offsets = λ u. refl;
+        registers = table-alike (addressed w handle register) (functionsMax * registersEach) _ _ (λ j u. rw (rw (e, add-one (j / registersEach), add-one i, eqb·suc-suc) at u));
+        list = l;
+        hooks = λ u. refl;
+        used = alike _ _;
+        cells = alike _ _;
+        own = alike _ own;
+      })
+      (λ l. keeps t b own _) (λ l. keeps t b own _)
+      (list-left w handle register value)
+
   stays : (c : Call) → Stays (mayTouch b c own) b own (referenceStep b c own)
-  unfolding referenceStep
+  unfolding mayTouch referenceStep
   stays Load = stays-load
   stays Reset = stays-reset
   stays WriteImage = stays-write
+  stays (FindPciDevice id index) = keeps (mayTouch b (FindPciDevice id index) own) b own _
+  stays (FindPciClasscode class index) = keeps (mayTouch b (FindPciClasscode class index) own) b own _
+  stays (ReadConfig width handle register) = keeps (mayTouch b (ReadConfig width handle register) own) b own _
+  stays (FastReadConfig width handle register) = keeps (mayTouch b (FastReadConfig width handle register) own) b own _
+  stays (WriteConfig width handle register value) = stays-written _ handle register value
   stays (ListWindow n) = keeps (mayTouch b (ListWindow n) own) b own _
 
 framed : (b : Reference) → Sound b → (c : Asked) → Framed (mayTouch b (c .call) (c .own)) (partsOf b) (c .own) (stepOn (partsOf b) c)

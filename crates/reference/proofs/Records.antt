@@ -3,7 +3,7 @@ use Prim.Native.Nat.{ℕ, zero, suc, _+_, _*_, _-_, _<_, _≤_}
 use native.Mathlib.Omega.{arith}
 use mathlib.Core.Path.{_≡_, refl, sym, _∙_, ap}
 use mathlib.Core.List.{List, [], _∷_, _++_}
-use lib.ListN.{length, getD, take, drop, length-append, length-drop, List·getD-append, List·getD-eq-default, take-append-drop}
+use lib.ListN.{length, take, drop, length-append, length-drop, List·getD-append, List·getD-eq-default, take-append-drop}
 use lib.Seq.{getD-append-add, getD-take, getD-drop, drop-drop, length-take-le}
 use Rattle.board.specs.Numbers.{byteAt}
 use Rattle.board.specs.Layout.{recordSize, recordByte}

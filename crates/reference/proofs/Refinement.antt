@@ -4,7 +4,8 @@ use mathlib.Core.List.{List, [], _∷_}
 use Rattle.reference.specs.Reference.{Reference, referenceStart}
 use Rattle.reference.specs.Run.{Asked, referenceOn, answers, after, referenceAnswers, referenceAfter, partsOf}
 use Rattle.reference.specs.Claims.{Refinement}
-use Rattle.reference.proofs.Simulation.{Sound, same, sound-start, start-same}
+use Rattle.reference.proofs.Sound.{Sound}
+use Rattle.reference.proofs.Simulation.{same, sound-start, start-same}
 
 pub record Goes (b : Reference) (cs : List Asked) : Type 0 where
   pub heard : answers (partsOf b) cs ≡ referenceAnswers b cs

@@ -9,12 +9,18 @@ use lib.Dec.{ltb, eqb}
 use lib.IntN.{pos}
 use borrow.Author.Tests.{ne-eqb}
 use lib.ListN.{length, getD}
-use Rattle.board.specs.Parts.{Parts}
-use Rattle.board.specs.Layout.{functionsMax, windowsMax}
+use Rattle.board.specs.Parts.{Parts, withRegisters}
+use Rattle.board.specs.Layout.{functionsMax, windowsMax, registerByte}
+use Rattle.board.specs.declared.number.Width.{Width}
+use Rattle.board.specs.Numbers.{bytes}
+use Rattle.board.specs.Statuses.{deviceNotFound}
 use Rattle.board.specs.Handles.{functionCount}
 use Rattle.window_list.specs.Windows.{Window}
 use Rattle.window_list.specs.Kept.{unpacked}
 use Rattle.window_list.specs.Listing.{listing, numberOf, valuesOf}
+use Rattle.config.specs.Read.{readOf, fastReadOf}
+use Rattle.config.specs.Write.{writeTo, writeConfig}
+use Rattle.config.specs.Search.{searched, foundNumber}
 use Rattle.image.specs.Image.{trailerSize, imageSize}
 use Rattle.image.specs.Refusals.{Facts, imageMax, cellsMax, accepted, refused, badRecord, firstRefusal}
 use Rattle.image.specs.Check.{factsOf, checked}
@@ -22,11 +28,11 @@ use Rattle.image.specs.Load.{ResetOutcome, loaded, load, reset}
 use Rattle.image.specs.Write.{Written, write}
 use Rattle.image.specs.declared.check.Verdict.{Verdict}
 use Rattle.reference.specs.declared.Call.{Call}
-use Rattle.reference.specs.declared.Call.the-variants.{Load, Reset, WriteImage, ListWindow}
-use Rattle.reference.specs.Answers.{answer, zeros, ofStatus, ofVerdict}
+use Rattle.reference.specs.declared.Call.the-variants.{Load, Reset, WriteImage, FindPciDevice, FindPciClasscode, ReadConfig, FastReadConfig, WriteConfig, ListWindow}
+use Rattle.reference.specs.Answers.{answer, zeros, ofStatus, ofVerdict, ofSearch, ofRead, ofFastRead}
 use Rattle.reference.specs.State.{Next, next, step}
-use Rattle.reference.specs.Claims.{Among, refusals, Untouched, Refusal}
-use Rattle.reference.proofs.Tests.{ifTest}
+use Rattle.reference.specs.Claims.{Among, refusals, Filler, Untouched, Refusal}
+use Rattle.reference.proofs.Tests.{ifTest, ifTarget}
 
 -- what the claim says of one outcome
 abbrev Kept : Parts → Call → List ℕ → Next → Type 0
@@ -77,6 +83,28 @@ list-kept p own n [] m = λ e. record { number = inl refl; filler = refl; parts 
 list-kept p own n (w ∷ l) zero = λ e. not-refused e
 list-kept p own n (w ∷ l) (suc m) = list-kept p own n l m
 
+-- a search refuses exactly where there is no such match
+search-kept : (p : Parts) (c : Call) (own : List ℕ) → Among (deviceNotFound .0) (refusals c) → Filler c (ofSearch (deviceNotFound .0))
+    → (hs : List ℕ) (m : ℕ) → Kept p c own (next (ofSearch (foundNumber (searched hs m))) p own)
+unfolding searched
+search-kept p c own n f [] m = λ e. record { number = n; filler = f; parts = refl; own = refl }
+search-kept p c own n f (h ∷ hs) zero = λ e. not-refused e
+search-kept p c own n f (h ∷ hs) (suc m) = search-kept p c own n f hs m
+
+-- a write of w registers refuses exactly where its target does
+write-kept : (p : Parts) (own : List ℕ) (width : Width) (w handle register value : ℕ)
+    → Kept p (WriteConfig width handle register value) own
+    (let o = writeConfig w (p .header) (p .records) (p .registers) (p .windows) handle register value in
+    next (ofStatus (o .status)) (withRegisters (o .registers) (o .windows) p) own)
+write-kept p own width w handle register value =
+    ifTarget
+    (λ t.
+    let o = writeTo (p .header) (p .records) (p .registers) (p .windows) w register value t in
+    Kept p (WriteConfig width handle register value) own (next (ofStatus (o .status)) (withRegisters (o .registers) (o .windows) p) own))
+    (functionCount (p .header)) w handle register (λ i h e k f. not-refused f)
+    (λ f. record { number = inr (inl refl); filler = refl; parts = refl; own = refl })
+    (λ f. record { number = inl refl; filler = refl; parts = refl; own = refl })
+
 pub refusal : Refusal
 unfolding step load reset write
 refusal p Load own = load-kept p _ own (checked own (length (p .cells))) (stated own (length (p .cells)))
@@ -93,4 +121,18 @@ refusal p WriteImage own =
   where
     K : Written → Type 0
     K w = Kept p WriteImage own (next (answer (pos (w .number)) zeros) p (w .out))
+refusal p (FindPciDevice id index) own = search-kept p (FindPciDevice id index) own (inl refl) refl _ index
+refusal p (FindPciClasscode class index) own = search-kept p (FindPciClasscode class index) own (inl refl) refl _ index
+refusal p (ReadConfig width handle register) own =
+    ifTarget (λ t. Kept p (ReadConfig width handle register) own (next (ofRead (readOf (registerByte (p .registers)) (bytes width) register t)) p own))
+    (functionCount (p .header)) (bytes width) handle register (λ i h e k f. not-refused f)
+    (λ f. record { number = inr (inl refl); filler = refl; parts = refl; own = refl })
+    (λ f. record { number = inl refl; filler = refl; parts = refl; own = refl })
+refusal p (FastReadConfig width handle register) own =
+    ifTarget
+    (λ t. Kept p (FastReadConfig width handle register) own (next (ofFastRead (fastReadOf (registerByte (p .registers)) (bytes width) register t)) p own))
+    (functionCount (p .header)) (bytes width) handle register (λ i h e k f. not-refused f)
+    (λ f. record { number = inl refl; filler = refl; parts = refl; own = refl })
+    (λ f. record { number = inl refl; filler = refl; parts = refl; own = refl })
+refusal p (WriteConfig width handle register value) own = write-kept p own width _ handle register value
 refusal p (ListWindow n) own = list-kept p own n (unpacked (p .windows)) n

@@ -1,27 +1,24 @@
 -- The lent parts after a load or a reset are those of the reference machine's fresh board.
-use Prim.Native.Nat.{ℕ, _+_, _*_, _-_, _/_, _%_, _<_, _≤_, min}
+use Prim.Native.Nat.{ℕ, _+_, _*_, _-_, _/_, _%_, _<_, _≤_}
 use native.Mathlib.Omega.{arith}
-use native.Mathlib.Nat.{min-eq-left, min-le-left}
-use mathlib.Core.Logic.{_⊎_, ⊎-elim}
-use mathlib.Core.Path.{_≡_, refl, sym, _∙_}
+use native.Mathlib.Nat.{min-le-left}
+use mathlib.Core.Path.{_≡_, refl, sym}
 use mathlib.Core.List.{List, [], _∷_}
 use lib.ListN.{length, drop, replicate, length-take}
 use Rattle.board.specs.Numbers.{byteAt}
 use Rattle.board.specs.Tables.{tableFrom, table, filledUp}
-use Rattle.board.specs.Layout.{functionsMax, bases, windowsMax, recordSize, entriesAt, entrySize, registersEach, hookSize, markSize, recordByte, exponent, registerByte}
-use Rattle.board.proofs.Tables.{table-get, table-same}
-use Rattle.window_list.specs.Windows.{listOf, windowList}
-use Rattle.window_list.proofs.Meaning.{list-same}
+use Rattle.board.specs.Layout.{functionsMax, bases, windowsMax, recordSize, entriesAt, entrySize, registersEach, hookSize, markSize, exponent}
+use Rattle.board.proofs.Tables.{table-same}
 use Rattle.image.specs.Cells.{total, cellsBefore, offsetsOf}
 use Rattle.image.specs.Image.{imageSize, countOf, recordsOf, recordAt}
 use Rattle.image.specs.Check.{factsOf, checked}
 use Rattle.image.specs.Load.{padded, registersOf, restarted, installed}
-use Rattle.image.proofs.Lists.{zeros-after}
 use Rattle.image.proofs.Ranges.{offset-at, before-same}
 use Rattle.image.proofs.Accepted.{Accepted, records-length}
 use Rattle.reference.specs.Reference.{recordOf, exponentOf, joined, fresh, imageRecords, imageFacts, verdict}
 use Rattle.reference.specs.Run.{numbers, lineByLine, markNumber, partsOf}
-use Rattle.reference.proofs.Records.{Sized, joined-byte, split-length, split-sized, split-joined, split-byte, split-record, bad-same}
+use Rattle.reference.proofs.Records.{Sized, split-length, split-sized, split-joined, split-byte, split-record, bad-same}
+use Rattle.reference.proofs.Registers.{flat, kept-byte, kept-exponent, list-kept}
 
 -- the exponents of all slots are read alike
 pub offsets-same : (k k′ : ℕ → ℕ → ℕ) → ((i b : ℕ) → b < bases → k i b ≡ k′ i b) → offsetsOf k ≡ offsetsOf k′
@@ -37,43 +34,17 @@ unfolding tableFrom
 no-marks = refl
 
 module _ (rs : List (List ℕ)) (s : Sized rs) where
-  -- a byte of the records array
-  kept-byte : (i at : ℕ) → at < recordSize → recordByte (padded (joined rs)) i at ≡ byteAt (recordOf rs i) at
-  kept-byte i at h =
-      zeros-after (joined rs) (functionsMax * recordSize - length (joined rs)) (recordSize * i + at) ∙ joined-byte rs s i at h
-
-  kept-exponent : (i b : ℕ) → b < bases → exponent (padded (joined rs)) i b ≡ exponentOf rs i b
-  kept-exponent i b h =
-      let e : entriesAt + entrySize * b + 0 ≡ entriesAt + entrySize * b = omega arith in
-      rw e (kept-byte i (entriesAt + entrySize * b) (omega arith))
-
-  registers-same : registersOf (padded (joined rs)) ≡ table (functionsMax * registersEach) (λ j. byteAt (recordOf rs (j / registersEach)) (j % registersEach))
+  registers-same : registersOf (padded (joined rs)) ≡ flat (λ i. byteAt (recordOf rs i))
   unfolding registersOf
   registers-same =
-      table-same 0 0 (functionsMax * registersEach) _ _ (λ j h. kept-byte ((0 + j) / registersEach) ((0 + j) % registersEach) (omega arith))
-
-  register-same : (i at : ℕ) → i < functionsMax → at < registersEach → registerByte (registersOf (padded (joined rs))) i at ≡ byteAt (recordOf rs i) at
-  register-same i at h a =
-      let n = registersEach * i + at in
-      let q : (0 + n) / registersEach ≡ i = omega arith in
-      let r : (0 + n) % registersEach ≡ at = omega arith in
-      rw registers-same (table-get 0 (functionsMax * registersEach) (λ j. byteAt (recordOf rs (j / registersEach)) (j % registersEach)) n (omega arith) ∙ rw (q, r))
-
-  list-kept : length rs ≤ functionsMax
-      → windowList (length rs ∷ 0 ∷ 0 ∷ 0 ∷ []) (padded (joined rs)) (registersOf (padded (joined rs)))
-      ≡ listOf (length rs) (exponentOf rs) (λ i. byteAt (recordOf rs i))
-  list-kept h =
-      rw (min-eq-left h)
-      (list-same (length rs) (exponent (padded (joined rs))) (exponentOf rs) (registerByte (registersOf (padded (joined rs)))) (λ i. byteAt (recordOf rs i))
-      (λ i b l m. kept-exponent i b m)
-      (λ i at l w. register-same i at (omega arith) (⊎-elim (λ e. omega arith) (λ e. omega (arith, e .1)) w)))
+      table-same 0 0 (functionsMax * registersEach) _ _ (λ j h. kept-byte rs s ((0 + j) / registersEach) ((0 + j) % registersEach) (omega arith))
 
   -- the parts that a load or a reset leaves
   pub restart-same : (cells : List ℕ) → length rs ≤ functionsMax
       → restarted (length rs ∷ 0 ∷ 0 ∷ 0 ∷ []) (padded (joined rs)) (offsetsOf (exponentOf rs)) cells ≡ partsOf (fresh rs cells)
   unfolding restarted partsOf
   restart-same cells h =
-      rw (list-kept h, registers-same, offset-at (exponentOf rs) windowsMax (omega arith), no-hooks, no-marks)
+      rw (registers-same, list-kept rs s (λ i. byteAt (recordOf rs i)) h, offset-at (exponentOf rs) windowsMax (omega arith), no-hooks, no-marks)
 
 -- an image's records are no longer than its count says
 records-few : (image : List ℕ) → length (recordsOf image) ≤ recordSize * countOf image

@@ -1,12 +1,11 @@
 -- One call: the program's step on the parts of a reference state is the reference machine's step.
-use Prim.Native.Nat.{ℕ, _+_, _*_, _-_, _≤_, min}
+use Prim.Native.Nat.{ℕ, _+_, _*_, _-_, _≤_}
 use native.Mathlib.Omega.{arith}
-use native.Mathlib.Nat.{min-eq-left}
 use mathlib.Core.Path.{_≡_, refl}
 use mathlib.Core.List.{List, []}
 use lib.Dec.{ltb, eqb}
 use lib.IntN.{pos}
-use lib.ListN.{length, take, replicate}
+use lib.ListN.{length, replicate}
 use lib.Seq.{take-at}
 use borrow.Author.Tests.{eqb-true}
 use Rattle.board.specs.Tables.{tableFrom}
@@ -16,7 +15,7 @@ use Rattle.window_list.specs.Windows.{gather, openWindows, putAll, listOf}
 use Rattle.window_list.specs.Kept.{keptList}
 use Rattle.window_list.proofs.KeptArray.{kept-of}
 use Rattle.window_list.proofs.Answers.{number-is, values-are}
-use Rattle.image.specs.Cells.{cellsBefore, total, offsetsOf, zeroed}
+use Rattle.image.specs.Cells.{cellsBefore, total, offsetsOf}
 use Rattle.image.specs.Image.{imageSize, imageOf}
 use Rattle.image.specs.Load.{Loaded, ResetOutcome, padded, load, reset}
 use Rattle.image.specs.Write.{Written, write}
@@ -24,26 +23,16 @@ use Rattle.image.proofs.Lists.{zeroed-length}
 use Rattle.image.proofs.Ranges.{offset-at}
 use Rattle.image.proofs.Accepted.{accepted-image}
 use Rattle.reference.specs.declared.Call.{Call}
-use Rattle.reference.specs.declared.Call.the-variants.{Load, Reset, WriteImage, ListWindow}
+use Rattle.reference.specs.declared.Call.the-variants.{Load, Reset, WriteImage, FindPciDevice, FindPciClasscode, ReadConfig, FastReadConfig, WriteConfig, ListWindow}
 use Rattle.reference.specs.Answers.{answer, zeros, ofStatus, ofVerdict}
-use Rattle.reference.specs.State.{Next, next, step}
-use Rattle.reference.specs.Reference.{Reference, Told, exponentOf, joined, fresh, imageRecords, windowsOf, imageBytes, verdict, referenceStep, referenceStart}
+use Rattle.reference.specs.State.{next, step}
+use Rattle.reference.specs.Reference.{Reference, exponentOf, joined, fresh, imageRecords, windowsOf, imageBytes, verdict, referenceStep, referenceStart}
 use Rattle.reference.specs.Run.{partsOf, start}
 use Rattle.reference.proofs.Tests.{ifBoth}
 use Rattle.reference.proofs.Records.{Sized, joined-length}
 use Rattle.reference.proofs.Same.{image-total, verdict-same, whole, installed-same, restart-same, no-hooks, no-marks}
-
--- what every reference state of a run has
-pub record Sound (b : Reference) : Type 0 where
-  pub few : length (b .records) ≤ functionsMax
-  pub sized : Sized (b .records)
-  pub fits : total (exponentOf (b .records)) ≤ length (b .cells)
-
-pub record Same (n : Next) (t : Told) : Type 0 where
-  pub answer : n .answer ≡ t .answer
-  pub parts : n .parts ≡ partsOf (t .reference)
-  pub own : n .own ≡ t .own
-  pub sound : Sound (t .reference)
+use Rattle.reference.proofs.Sound.{Sound, Same, Simulated, as-told, count-same}
+use Rattle.reference.proofs.Configuration.{same-device, same-class, same-read, same-fast-read, same-write-config}
 
 -- a fresh board is sound
 fresh-sound : (rs : List (List ℕ)) (cells : List ℕ) → length rs ≤ functionsMax → Sized rs → total (exponentOf rs) ≤ length cells → Sound (fresh rs cells)
@@ -51,7 +40,7 @@ fresh-sound rs cells f s h =
     record { few = f; sized = s; fits = rw (zeroed-length (total (exponentOf rs)) cells h) h }
 
 module _ (b : Reference) (s : Sound b) where
-  same-load : (own : List ℕ) → Same (step (partsOf b) Load own) (referenceStep b Load own)
+  same-load : (own : List ℕ) → Simulated b Load own
   unfolding step referenceStep load partsOf
   same-load own =
       rw (verdict-same own (length (b .cells)))
@@ -66,18 +55,15 @@ module _ (b : Reference) (s : Sound b) where
         own = refl;
         sound = fresh-sound (imageRecords own) (b .cells) (w .few) (w .sized) (rw (image-total own) (a .fine .fits));
       })
-      (λ e. record { answer = refl; parts = refl; own = refl; sound = s }))
+      (λ e. as-told b s))
 
-  count-same : min (length (b .records)) functionsMax ≡ length (b .records)
-  count-same = min-eq-left (s .few)
-
-  same-reset : (own : List ℕ) → Same (step (partsOf b) Reset own) (referenceStep b Reset own)
+  same-reset : (own : List ℕ) → Simulated b Reset own
   unfolding step referenceStep reset partsOf
   same-reset own =
       rw (offset-at (exponentOf (b .records)) windowsMax (omega arith))
       (ifBoth (λ (w : ResetOutcome) t. Same (next (ofStatus (w .status)) (w .parts) own) t)
       (ltb (length (b .cells)) (total (exponentOf (b .records))))
-      (λ e. record { answer = refl; parts = refl; own = refl; sound = s })
+      (λ e. as-told b s)
       (λ e.
       record {
         answer = refl;
@@ -91,28 +77,33 @@ module _ (b : Reference) (s : Sound b) where
       let j = joined (b .records) in
       rw (take-at j (replicate (functionsMax * recordSize - length j) 0) (recordSize * length (b .records)) (joined-length (b .records) (s .sized)))
 
-  same-write : (own : List ℕ) → Same (step (partsOf b) WriteImage own) (referenceStep b WriteImage own)
+  same-write : (own : List ℕ) → Simulated b WriteImage own
   unfolding step referenceStep write partsOf
   same-write own =
-      rw (count-same, image-same)
+      rw (count-same b s, image-same)
       (ifBoth (λ (w : Written) t. Same (next (answer (pos (w .number)) zeros) (partsOf b) (w .out)) t)
       (ltb (length own) (imageSize (length (b .records))))
-      (λ e. record { answer = refl; parts = refl; own = refl; sound = s })
+      (λ e. as-told b s)
       (λ e.
       ifBoth (λ (w : Written) t. Same (next (answer (pos (w .number)) zeros) (partsOf b) (w .out)) t) (eqb (length (b .records)) 0)
-      (λ z. record { answer = refl; parts = refl; own = refl; sound = s })
-      (λ z. record { answer = refl; parts = refl; own = refl; sound = s })))
+      (λ z. as-told b s)
+      (λ z. as-told b s)))
 
-  same-list : (n : ℕ) (own : List ℕ) → Same (step (partsOf b) (ListWindow n) own) (referenceStep b (ListWindow n) own)
+  same-list : (n : ℕ) (own : List ℕ) → Simulated b (ListWindow n) own
   unfolding step referenceStep partsOf
   same-list n own =
       rw (kept-of (length (b .records)) (exponentOf (b .records)) (b .registers) (s .few), number-is (windowsOf b) n, values-are (windowsOf b) n)
-      (record { answer = refl; parts = refl; own = refl; sound = s })
+      (as-told b s)
 
-  pub same : (c : Call) (own : List ℕ) → Same (step (partsOf b) c own) (referenceStep b c own)
+  pub same : (c : Call) (own : List ℕ) → Simulated b c own
   same Load own = same-load own
   same Reset own = same-reset own
   same WriteImage own = same-write own
+  same (FindPciDevice id index) own = same-device b s id index own
+  same (FindPciClasscode class index) own = same-class b s class index own
+  same (ReadConfig width handle register) own = same-read b s width handle register own
+  same (FastReadConfig width handle register) own = same-fast-read b s width handle register own
+  same (WriteConfig width handle register value) own = same-write-config b s width handle register value own
   same (ListWindow n) own = same-list n own
 
 no-cells : total (exponentOf []) ≡ 0

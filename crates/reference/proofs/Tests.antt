@@ -1,6 +1,16 @@
--- A test taken apart: of one term, and of two terms that make the same test.
-use mathlib.Core.Bool.{Bool, true, false, cond}
+-- A choice taken apart: of one term, of two terms that make the same test, and of what a configuration access is for.
+use Prim.Native.Nat.{ℕ, _+_, _-_, _%_, _<_, _≤_}
+use native.Mathlib.Omega.{arith}
+use mathlib.Core.Bool.{Bool, true, false, cond, _&&_}
 use mathlib.Core.Path.{_≡_, refl}
+use lib.Dec.{eqb, leb}
+use borrow.Author.Tests.{leb-true}
+use Rattle.board.specs.Layout.{registersEach}
+use Rattle.board.specs.Statuses.{badRegisterNumber, badHandle}
+use Rattle.board.proofs.Tests.{both-true}
+use Rattle.config.specs.Target.{fits, target}
+use Rattle.config.specs.declared.target.Target.{Target}
+use Rattle.config.specs.declared.target.Target.the-variants.{Function, Refused}
 
 pub ifTest : {A : Type 0} (P : A → Type 0) (t : Bool) {x y : A} → (t ≡ true → P x) → (t ≡ false → P y) → P (cond t x y)
 ifTest P true p q = p refl
@@ -10,3 +20,19 @@ pub ifBoth : {A B : Type 0} (P : A → B → Type 0) (t : Bool) {x y : A} {x′ 
     → P (cond t x y) (cond t x′ y′)
 ifBoth P true p q = p refl
 ifBoth P false p q = q refl
+
+-- an accepted access is for the function of its handle, and inside its registers
+pub ifTarget : (P : Target → Type 0) (count w handle register : ℕ)
+    → ((i : ℕ) → i < count → handle ≡ i + 1 → register + w ≤ registersEach → P (Function i))
+    → P (Refused badRegisterNumber) → P (Refused badHandle)
+    → P (target (leb 1 handle && leb handle count) w handle register)
+unfolding target
+ifTarget P count w handle register f r h =
+    ifTest P (leb 1 handle && leb handle count)
+    (λ e.
+    let low = leb-true 1 handle (both-true (leb 1 handle) (leb handle count) e .0) in
+    let high = leb-true handle count (both-true (leb 1 handle) (leb handle count) e .1) in
+    ifTest P (fits w register)
+    (λ g. f (handle - 1) (omega arith) (omega arith) (leb-true (register + w) registersEach (both-true (eqb (register % w) 0) (leb (register + w) registersEach) g .1)))
+    (λ g. r))
+    (λ e. h)

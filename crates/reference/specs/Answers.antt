@@ -5,6 +5,8 @@ use mathlib.Core.List.{List, _∷_}
 use lib.IntN.{ℤ, pos, negsuc}
 use lib.ListN.{replicate}
 use Rattle.board.specs.declared.status.Status.{Status}
+use Rattle.config.specs.declared.read.ConfigRead.{ConfigRead}
+use Rattle.config.specs.declared.read.FastConfigRead.{FastConfigRead}
 use Rattle.image.specs.declared.check.Verdict.{Verdict}
 use Rattle.reference.specs.declared.Answer.{Answer}
 
@@ -24,6 +26,26 @@ zeros = replicate 6 0
 abbrev pub ofStatus : Status → Answer
 ofStatus s = answer (s .0) zeros
 
+-- one value
+abbrev pub one : ℕ → List ℕ
+one v = v ∷ replicate 5 0
+
 -- a load's number, and the place that it returns
 abbrev pub ofVerdict : Verdict → Answer
-ofVerdict v = answer (pos (v .number)) (v .place ∷ replicate 5 0)
+ofVerdict v = answer (pos (v .number)) (one (v .place))
+
+-- a search's number: the handle, or below 0 the refusal
+abbrev pub below : ℤ → Bool
+below (pos n) = false
+below (negsuc n) = true
+
+abbrev pub ofSearch : ℤ → Answer
+ofSearch number = record { number = number; refused = below number; values = zeros }
+
+-- a read's number and value
+abbrev pub ofRead : ConfigRead → Answer
+ofRead r = answer (r .status .0) (one (r .value))
+
+-- a fast read hands back its value and the fault flag, and no number
+abbrev pub ofFastRead : FastConfigRead → Answer
+ofFastRead r = record { number = pos 0; refused = r .fault; values = one (r .value) }

@@ -1,39 +1,43 @@
--- Board B1 and its window list on the reference machine: document 01, "Board B1 and its cases".
+-- Board B1 and its proved cases on the reference machine: document 01, "Board B1 and its cases".
 use Prim.Native.Nat.{ℕ}
-use mathlib.Core.List.{List, [], _∷_, _++_}
+use mathlib.Core.List.{List, [], _∷_, _++_, map}
 use mathlib.Core.Path.{_≡_}
 use lib.IntN.{pos}
 use lib.ListN.{replicate, set}
 use Rattle.board.specs.Layout.{recordSize}
-use Rattle.board.specs.Statuses.{deviceNotFound}
-use Rattle.reference.specs.declared.Call.the-variants.{Load, ListWindow}
-use Rattle.reference.specs.Answers.{answer, zeros}
+use Rattle.board.specs.Statuses.{successful, deviceNotFound}
+use Rattle.board.specs.declared.number.Width.the-variants.{Byte, Long}
+use Rattle.board.specs.declared.status.Status.{Status}
+use Rattle.reference.specs.declared.Answer.{Answer}
+use Rattle.reference.specs.declared.Call.{Call}
+use Rattle.reference.specs.declared.Call.the-variants.{Load, FindPciDevice, FindPciClasscode, ReadConfig, WriteConfig, ListWindow}
+use Rattle.reference.specs.Answers.{answer, zeros, one, ofStatus, ofSearch}
 use Rattle.reference.specs.Reference.{referenceStart}
-use Rattle.reference.specs.Run.{Asked, Heard, asked, heard, referenceAnswers}
+use Rattle.reference.specs.Run.{asked, heard, referenceAnswers}
 
 -- a byte and its place in a record; bytes not named are 0
-pub record Byte : Type 0 where
+pub record PlacedByte : Type 0 where
   pub place : ℕ
   pub value : ℕ
 
-abbrev pub at : ℕ → ℕ → Byte
+abbrev pub at : ℕ → ℕ → PlacedByte
 at place value = record { place = place; value = value }
 
-unfoldable pub stored : List Byte → List ℕ
+unfoldable pub stored : List PlacedByte → List ℕ
 stored [] = replicate recordSize 0
 stored (b ∷ bs) = set (stored bs) (b .place) (b .value)
 
 -- vendor 0F0Fh, device 0001h, command 0003h with mask 0003h, class 118000h, line 5 with mask FFh, pin 1
-abbrev pub both : List Byte
+abbrev pub both : List PlacedByte
 both =
     at 0x00 0x0F ∷ at 0x01 0x0F ∷ at 0x02 0x01 ∷ at 0x04 0x03 ∷ at 0x104 0x03 ∷ at 0x0A 0x80 ∷ at 0x0B 0x11 ∷ at 0x3C 5 ∷ at 0x13C 0xFF ∷ at 0x3D 1 ∷ []
 
 -- base 0: k 10, order 1, widths 7, with its mask
-abbrev pub memory : List Byte
+abbrev pub memory : List PlacedByte
 memory = at 0x111 0xFC ∷ at 0x112 0xFF ∷ at 0x113 0xFF ∷ at 512 10 ∷ at 513 1 ∷ at 514 7 ∷ []
 
 -- base 1: k 4, order 2, widths 1, with its mask
-abbrev pub ports : List Byte
+abbrev pub ports : List PlacedByte
 ports = at 0x114 0xF0 ∷ at 0x115 0xFF ∷ at 0x116 0xFF ∷ at 0x117 0xFF ∷ at 516 4 ∷ at 517 2 ∷ at 518 1 ∷ []
 
 -- memory at 80000000h; memory at 80000400h and I/O at 00000100h; the trailer: 1,100 back, 2 records, edition 1, sum 3,720
@@ -42,24 +46,85 @@ b1 =
     stored (at 0x13 0x80 ∷ both ++ memory) ++ stored (at 0x11 0x04 ∷ at 0x13 0x80 ∷ at 0x14 0x01 ∷ at 0x15 0x01 ∷ both ++ (memory ++ ports))
     ++ (0 ∷ 0 ∷ 4 ∷ 0x4C ∷ 0 ∷ 2 ∷ 0 ∷ 1 ∷ 0 ∷ 0 ∷ 0x0E ∷ 0x88 ∷ [])
 
--- the list, and what follows its end
-abbrev pub b1Calls : List Asked
-b1Calls =
-    asked Load b1 ∷ asked (ListWindow 0) [] ∷ asked (ListWindow 1) [] ∷ asked (ListWindow 2) [] ∷ asked (ListWindow 3) [] ∷ []
+-- the calls of a case, each without a buffer of its own, and the answers that they give on a fresh B1
+pub record Case : Type 0 where
+  pub calls : List Call
+  pub answers : List Answer
 
-abbrev pub b1Heard : List Heard
-b1Heard =
-    heard (answer (pos 0) zeros) b1
-    ∷ heard (answer (pos 0) (0 ∷ 0x80000000 ∷ 0x400 ∷ 1 ∷ 0 ∷ 0 ∷ [])) []
-    ∷ heard (answer (pos 0) (0 ∷ 0x80000400 ∷ 0x400 ∷ 2 ∷ 0 ∷ 0 ∷ [])) []
-    ∷ heard (answer (pos 0) (1 ∷ 0x100 ∷ 0x10 ∷ 2 ∷ 1 ∷ 0 ∷ [])) []
-    ∷ heard (answer (deviceNotFound .0) zeros) []
-    ∷ []
+abbrev pub case : List Call → List Answer → Case
+case calls answers = record { calls = calls; answers = answers }
 
--- B1 loads where its 2,064 cells are lent, and its list is document 01's
-abbrev pub B1List : Type 0
-B1List = referenceAnswers (referenceStart (replicate 2064 0)) b1Calls ≡ b1Heard
+-- a handle found; a number alone; a number and a value; a window listed
+abbrev pub found : ℕ → Answer
+found handle = ofSearch (pos handle)
 
--- with one cell less it is refused with 8
+abbrev pub status : Status → Answer
+status s = ofStatus s
+
+abbrev pub value : ℕ → Answer
+value v = answer (successful .0) (one v)
+
+abbrev pub listed : ℕ → ℕ → ℕ → ℕ → ℕ → ℕ → Answer
+listed space start length handle base contested = answer (successful .0) (space ∷ start ∷ length ∷ handle ∷ base ∷ contested ∷ [])
+
+-- the three windows of B1, with the start of handle 2's memory window and the mark of both
+abbrev pub list : ℕ → ℕ → List Answer
+list start contested =
+    listed 0 0x80000000 0x400 1 0 contested ∷ listed 0 start 0x400 2 0 contested ∷ listed 1 0x100 0x10 2 1 0 ∷ status deviceNotFound ∷ []
+
+abbrev pub listing : List Call
+listing = ListWindow 0 ∷ ListWindow 1 ∷ ListWindow 2 ∷ ListWindow 3 ∷ []
+
+-- the window list of B1, and P1 to P8 and P11
+abbrev pub b1List : Case
+b1List = case listing (list 0x80000400 0)
+
+abbrev pub p1 : Case
+p1 = case (FindPciDevice 0x00010F0F 1 ∷ []) (found 2 ∷ [])
+
+abbrev pub p2 : Case
+p2 = case (FindPciDevice 0x00010F0F 2 ∷ []) (status deviceNotFound ∷ [])
+
+abbrev pub p3 : Case
+p3 = case (FindPciDevice 0x0000FFFF 0 ∷ []) (found 1 ∷ [])
+
+abbrev pub p4 : Case
+p4 = case (FindPciClasscode 0x01118055 0 ∷ []) (found 1 ∷ [])
+
+abbrev pub p5 : Case
+p5 = case (FindPciClasscode 0x00118055 0 ∷ []) (status deviceNotFound ∷ [])
+
+abbrev pub p6 : Case
+p6 = case (WriteConfig Long 1 0x10 0xFFFFFFFF ∷ ReadConfig Long 1 0x10 ∷ []) (status successful ∷ value 0xFFFFFC00 ∷ [])
+
+abbrev pub p7 : Case
+p7 = case (WriteConfig Byte 1 0x11 0x12 ∷ ReadConfig Long 1 0x10 ∷ []) (status successful ∷ value 0x80001000 ∷ [])
+
+abbrev pub p8 : Case
+p8 = case (WriteConfig Long 2 0x14 0xFFFFFFFF ∷ ReadConfig Long 2 0x14 ∷ []) (status successful ∷ value 0xFFFFFFF1 ∷ [])
+
+abbrev pub p11 : Case
+p11 =
+    case (WriteConfig Long 2 0x10 0x80000000 ∷ listing ++ WriteConfig Long 2 0x10 0x80000400 ∷ listing)
+    (status successful ∷ list 0x80000000 1 ++ status successful ∷ list 0x80000400 0)
+
+abbrev pub table : List Case
+table = b1List ∷ p1 ∷ p2 ∷ p3 ∷ p4 ∷ p5 ∷ p6 ∷ p7 ∷ p8 ∷ p11 ∷ []
+
+-- a case holds where the reference machine, with B1's 2,064 cells, loads B1 and then gives its answers
+abbrev pub Holds : Case → Type 0
+Holds c =
+    referenceAnswers (referenceStart (replicate 2064 0)) (asked Load b1 ∷ map (λ call. asked call []) (c .calls))
+    ≡ heard (ofStatus successful) b1 ∷ map (λ a. heard a []) (c .answers)
+
+-- THE PROVED CASES: every row of the table holds
+abbrev pub Every : List Case → Type 0
+Every [] = Unit {0}
+Every (c ∷ cs) = Holds c × Every cs
+
+abbrev pub ProvedCases : Type 0
+ProvedCases = Every table
+
+-- with one cell less B1 is refused with 8
 abbrev pub B1Short : Type 0
 B1Short = referenceAnswers (referenceStart (replicate 2063 0)) (asked Load b1 ∷ []) ≡ heard (answer (pos 8) zeros) b1 ∷ []

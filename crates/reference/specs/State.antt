@@ -2,15 +2,21 @@
 use Prim.Native.Nat.{ℕ}
 use mathlib.Core.List.{List}
 use lib.IntN.{pos}
-use Rattle.board.specs.Parts.{Parts}
+use Rattle.board.specs.Parts.{Parts, withRegisters}
+use Rattle.board.specs.Handles.{functionCount}
+use Rattle.board.specs.Layout.{registerByte}
+use Rattle.board.specs.Numbers.{bytes}
 use Rattle.window_list.specs.Kept.{unpacked}
 use Rattle.window_list.specs.Listing.{listing, numberOf, valuesOf}
+use Rattle.config.specs.Read.{readConfig, fastReadConfig}
+use Rattle.config.specs.Search.{devices, classes, searched, foundNumber}
+use Rattle.config.specs.Write.{writeConfig}
 use Rattle.image.specs.Load.{load, reset}
 use Rattle.image.specs.Write.{write}
 use Rattle.reference.specs.declared.Answer.{Answer}
 use Rattle.reference.specs.declared.Call.{Call}
-use Rattle.reference.specs.declared.Call.the-variants.{Load, Reset, WriteImage, ListWindow}
-use Rattle.reference.specs.Answers.{answer, zeros, ofStatus, ofVerdict}
+use Rattle.reference.specs.declared.Call.the-variants.{Load, Reset, WriteImage, FindPciDevice, FindPciClasscode, ReadConfig, FastReadConfig, WriteConfig, ListWindow}
+use Rattle.reference.specs.Answers.{answer, zeros, ofStatus, ofVerdict, ofSearch, ofRead, ofFastRead}
 
 -- the answer, the lent parts, and the call's own buffer
 pub record Next : Type 0 where
@@ -25,4 +31,17 @@ unfoldable pub step : Parts → Call → List ℕ → Next
 step p Load own = let w = load p own in next (ofVerdict (w .verdict)) (w .parts) own
 step p Reset own = let w = reset p in next (ofStatus (w .status)) (w .parts) own
 step p WriteImage own = let w = write (p .header) (p .records) own in next (answer (pos (w .number)) zeros) p (w .out)
+step p (FindPciDevice id index) own =
+    let hs = devices id (functionCount (p .header)) (registerByte (p .registers)) in
+    next (ofSearch (foundNumber (searched hs index))) p own
+step p (FindPciClasscode class index) own =
+    let hs = classes class (functionCount (p .header)) (registerByte (p .registers)) in
+    next (ofSearch (foundNumber (searched hs index))) p own
+step p (ReadConfig width handle register) own =
+    next (ofRead (readConfig (bytes width) (p .header) (p .registers) handle register)) p own
+step p (FastReadConfig width handle register) own =
+    next (ofFastRead (fastReadConfig (bytes width) (p .header) (p .registers) handle register)) p own
+step p (WriteConfig width handle register value) own =
+    let w = writeConfig (bytes width) (p .header) (p .records) (p .registers) (p .windows) handle register value in
+    next (ofStatus (w .status)) (withRegisters (w .registers) (w .windows) p) own
 step p (ListWindow n) own = let l = listing (unpacked (p .windows)) n in next (answer (numberOf l) (valuesOf l)) p own

@@ -1,16 +1,44 @@
 // The calls on a board, and their answer. No functions: the reference machine and the claims stand in specs/ and proofs/.
+use board::number::Width;
+
 // A call with its arguments; the bytes that it reads or fills are lent beside it.
 pub enum Call {
     Load,
     Reset,
     WriteImage,
-    ListWindow { n: u32 },
+    FindPciDevice {
+        id: u32,
+        index: u32,
+    },
+    FindPciClasscode {
+        class: u32,
+        index: u32,
+    },
+    ReadConfig {
+        width: Width,
+        handle: u32,
+        register: u8,
+    },
+    FastReadConfig {
+        width: Width,
+        handle: u32,
+        register: u8,
+    },
+    WriteConfig {
+        width: Width,
+        handle: u32,
+        register: u8,
+        value: u32,
+    },
+    ListWindow {
+        n: u32,
+    },
 }
 
 // The values of an answer; those that it does not have are 0.
 pub type Values = [u64; 6];
 
-// What a call hands back: the number, whether it was refused, and the values.
+// What a call hands back: the number, whether it was refused, and the values. A fast read has no number: it is 0, and `refused` is its fault flag.
 pub struct Answer {
     pub number: i32,
     pub refused: bool,

@@ -1,29 +1,25 @@
 //! Boards that were used by calls not under test here, and boards that a caller altered.
 
-use crate::boards::{ENTRIES, FIRST_BASE};
+use crate::boards::ENTRIES;
 use crate::parts::{Parts, REGISTERS};
 use crate::random::Random;
-use second::{Width, BASES, FUNCTIONS, RECORD_LENGTH, WINDOWS};
+use second::{BASES, FUNCTIONS, RECORD_LENGTH, WINDOWS};
 
-/// Uses a board as drivers do, through `second`: configuration writes, hooks, used marks.
+/// Uses a board as drivers do, through `second`: hooks and used marks.
 pub fn use_board(random: &mut Random, parts: &mut Parts) {
     let mut board = parts.board();
     for _ in 0..random.within(1..=20) {
         let handle = random.within(1..=board.functions().max(1)) as u32;
         let (first, second) = (random.long(), random.long());
         // Their answers are not looked at: this only makes states.
-        let _ = match random.below(6) {
-            0 => board.hook_interrupt(handle, first, second),
-            1 => board.set_card_used(handle, first % 4, second),
-            2 => board.write_config(handle, 0x04, Width::Byte, first),
-            3 => board.write_config(handle, first as u8, Width::Byte, second),
-            _ => {
-                let register = FIRST_BASE + 4 * random.below(BASES);
-                board.write_config(handle, register as u8, Width::Long, second)
-            }
+        let _ = match random.one_in(2) {
+            true => board.hook_interrupt(handle, first, second),
+            false => board.set_card_used(handle, first % 4, second),
         };
     }
-    *parts = Parts { header: parts.header, ..Parts::of(&board) };
+    let used = Parts::of(&board);
+    parts.hooks = used.hooks;
+    parts.used = used.used;
 }
 
 /// Alters one to three of the lent parts in a way that no call does.

@@ -25,7 +25,9 @@ impl RandomBoard {
         let mut placed = Vec::new();
         let mut records = Vec::new();
         for exponents in exponents(random) {
-            records.push(record(random, &exponents, &mut placed));
+            let mut record = record(random, &exponents, &mut placed);
+            take_after(random, &mut record, &records);
+            records.push(record);
         }
         RandomBoard { notes: notes(random), records }
     }
@@ -122,6 +124,20 @@ fn header(random: &mut Random) -> Record {
     record[OFFSET_LOW] &= 0xFC;
     (0..BASES).for_each(|base| clear_base(&mut record, base));
     record
+}
+
+/// Gives half of the records some of an earlier one's vendor, device and class bytes, so
+/// that searches match several functions and not all.
+fn take_after(random: &mut Random, record: &mut Record, earlier: &[Record]) {
+    if earlier.is_empty() || random.one_in(2) {
+        return;
+    }
+    let other = &earlier[random.below(earlier.len())];
+    for field in [0x00..0x02, 0x02..0x04, 0x09..0x0A, 0x0A..0x0B, 0x0B..0x0C] {
+        if !random.one_in(3) {
+            record[field.clone()].copy_from_slice(&other[field]);
+        }
+    }
 }
 
 pub fn clear_base(record: &mut Record, base: usize) {

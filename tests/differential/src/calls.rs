@@ -23,6 +23,36 @@ pub enum Call {
         image: Vec<u8>,
         room: usize,
     },
+    FindPciDevice {
+        id: u32,
+        index: u32,
+    },
+    FindPciClasscode {
+        class_code: u32,
+        index: u32,
+    },
+    ReadConfig(Access),
+    FastReadConfig(Access),
+    WriteConfig {
+        access: Access,
+        value: u32,
+    },
+}
+
+/// What a configuration call names. A width other than 1, 2 or 4 can be asked from C
+/// alone.
+#[derive(Clone, Copy)]
+pub struct Access {
+    pub width: u32,
+    pub handle: u32,
+    pub register: u8,
+}
+
+impl fmt::Display for Access {
+    fn fmt(&self, f: &mut fmt::Formatter) -> fmt::Result {
+        let Access { width, handle, register } = self;
+        write!(f, "width {width}, handle {handle:#x}, register {register:#x}")
+    }
 }
 
 impl Call {
@@ -33,6 +63,11 @@ impl Call {
             Call::WriteImage { .. } => "write_image",
             Call::ListWindow { .. } => "list_window",
             Call::CheckImage { .. } => "check_image",
+            Call::FindPciDevice { .. } => "find_pci_device",
+            Call::FindPciClasscode { .. } => "find_pci_classcode",
+            Call::ReadConfig(_) => "read_config",
+            Call::FastReadConfig(_) => "fast_read_config",
+            Call::WriteConfig { .. } => "write_config",
         }
     }
 }
@@ -50,6 +85,14 @@ impl fmt::Display for Call {
             Call::CheckImage { image, room } => {
                 write!(f, "{name} of {} bytes, room {room}", image.len())
             }
+            Call::FindPciDevice { id: key, index }
+            | Call::FindPciClasscode { class_code: key, index } => {
+                write!(f, "{name} {key:#x}, index {index}")
+            }
+            Call::ReadConfig(access) | Call::FastReadConfig(access) => {
+                write!(f, "{name}, {access}")
+            }
+            Call::WriteConfig { access, value } => write!(f, "{name}, {access}, value {value:#x}"),
         }
     }
 }
@@ -57,6 +100,7 @@ impl fmt::Display for Call {
 /// What a call hands back: values that it does not have are 0.
 #[derive(Default)]
 pub struct Answer {
+    /// The number. A fast read has none, and its fault flag stands here.
     pub number: i64,
     pub values: [u64; 6],
     /// The bytes left in the call's own buffer.
@@ -70,7 +114,21 @@ impl Answer {
 
     /// An image check's answer: the number and the place.
     pub fn verdict(number: u32, place: u32) -> Self {
-        Answer { values: [place.into(), 0, 0, 0, 0, 0], ..Answer::number(number.into()) }
+        Answer::with_value(number.into(), place)
+    }
+
+    /// A plain read's answer: the number and the value.
+    pub fn read(number: i32, value: u32) -> Self {
+        Answer::with_value(number.into(), value)
+    }
+
+    /// A fast read's answer: the value, and 1 where it was refused.
+    pub fn fast_read(value: u32, fault: u32) -> Self {
+        Answer::with_value(fault.into(), value)
+    }
+
+    fn with_value(number: i64, value: u32) -> Self {
+        Answer { values: [value.into(), 0, 0, 0, 0, 0], ..Answer::number(number) }
     }
 
     /// The first place where this answer, the proved code's, differs from `second`'s.

@@ -1,12 +1,16 @@
-//! `differential RUNS [SEED] [--tally]`: the proved code against `second`, on a sweep and random runs.
+//! `differential RUNS [SEED] [--tally]`: the proved code against `second`, on sweeps and random runs.
 #![deny(unsafe_op_in_unsafe_fn)]
 
 mod alter;
+mod arguments;
 mod boards;
 mod calls;
+mod config_sweep;
 mod damage;
 mod guards;
+mod met;
 mod model;
+mod pair;
 mod parts;
 mod proved;
 mod random;
@@ -46,9 +50,13 @@ fn main() -> ExitCode {
     }
 }
 
-/// Performs the sweep, then the runs of as many seeds from the first on.
+/// Performs the sweeps, then the runs of as many seeds from the first on. Of the sweeps
+/// only the calls are counted: the runs must meet everything by themselves.
 fn compared(runs: u64, seed: u64, tally: &mut Tally) -> Result<(), String> {
-    sweep::sweep(tally)?;
+    let mut swept = Tally::default();
+    sweep::sweep(&mut swept)?;
+    config_sweep::sweep(&mut swept)?;
+    tally.calls = swept.calls;
     for run in 0..runs {
         runs::run(seed.wrapping_add(run), tally)?;
     }

@@ -1,8 +1,8 @@
 //! The second implementation behind the same calls, on the same lent parts.
 
-use crate::calls::{Answer, Call};
+use crate::calls::{Access, Answer, Call};
 use crate::parts::Parts;
-use second::Board;
+use second::{moves_windows, Board, Width, GENERAL_ERROR};
 
 pub struct Second {
     pub parts: Parts,
@@ -22,6 +22,7 @@ impl Second {
             (Call::Reset { .. }, 0) => {
                 self.parts = Parts { header: self.parts.header, ..Parts::of(&board) };
             }
+            (Call::WriteConfig { access, .. }, 0) => self.take_write(&board, *access),
             // Every other call leaves the parts as they stand, whatever they hold.
             _ => assert!(board == self.parts.board(), "second changes the board in {call}"),
         }
@@ -45,8 +46,64 @@ impl Second {
                 let verdict = second::check_image(image, *room);
                 Answer::verdict(verdict.number, verdict.place)
             }
+            Call::FindPciDevice { id, index } => {
+                Answer::number(board.find_pci_device(*id, *index).into())
+            }
+            Call::FindPciClasscode { class_code, index } => {
+                Answer::number(board.find_pci_classcode(*class_code, *index).into())
+            }
+            Call::ReadConfig(access) => read(board, *access),
+            Call::FastReadConfig(access) => fast_read(board, *access),
+            Call::WriteConfig { access, value } => write(board, *access, *value),
         }
     }
+
+    /// Takes over what an accepted configuration write changed: registers, and the kept
+    /// list where the write works it out afresh. Any other write leaves the numbers of the
+    /// list bit for bit as they stand, and `second`'s windows have no place for all bits.
+    fn take_write(&mut self, board: &Board, access: Access) {
+        let written = Parts::of(board);
+        self.parts.registers = written.registers;
+        if width(access).is_some_and(|width| moves_windows(access.register, width)) {
+            self.parts.windows = written.windows;
+        }
+        assert!(*board == self.parts.board(), "second changes more than a write may: {access}");
+    }
+}
+
+/// The width of an access, where it is one that `second` can be asked.
+fn width(access: Access) -> Option<Width> {
+    match access.width {
+        1 => Some(Width::Byte),
+        2 => Some(Width::Word),
+        4 => Some(Width::Long),
+        _ => None,
+    }
+}
+
+// The calls for C refuse every other width before all else; document 01 has no such call.
+
+fn read(board: &Board, access: Access) -> Answer {
+    let Some(width) = width(access) else {
+        return Answer::read(GENERAL_ERROR, 0);
+    };
+    let (number, value) = board.read_config(access.handle, access.register, width);
+    Answer::read(number, value)
+}
+
+fn fast_read(board: &Board, access: Access) -> Answer {
+    let Some(width) = width(access) else {
+        return Answer::fast_read(u32::MAX, 1);
+    };
+    let (value, fault) = board.fast_read_config(access.handle, access.register, width);
+    Answer::fast_read(value, fault.into())
+}
+
+fn write(board: &mut Board, access: Access, value: u32) -> Answer {
+    let Some(width) = width(access) else {
+        return Answer::number(GENERAL_ERROR.into());
+    };
+    Answer::number(board.write_config(access.handle, access.register, width, value).into())
 }
 
 fn listed(board: &Board, n: u32) -> Answer {
@@ -61,4 +118,46 @@ fn listed(board: &Board, n: u32) -> Answer {
         window.contested.into(),
     ];
     Answer { values, ..Answer::number(listing.number.into()) }
+}
+
+#[cfg(test)]
+mod tests {
+    use super::*;
+    use second::board_b1::b1_image;
+
+    /// A write that does not refresh keeps every bit of an altered list, those above a
+    /// kept window's fields too; one that does packs the list of the registers.
+    #[test]
+    fn kept_numbers_after_writes() {
+        let mut model = Second::new(vec![0; 4096]);
+        assert_eq!(model.perform(&Call::Load { image: b1_image(), lent: 4096 }).number, 0);
+        let loaded = model.parts.windows;
+        let altered = loaded.map(|number| !number);
+        model.parts.windows = altered;
+        model.parts.header[3] = 7;
+        let mut write = |width, handle, register| {
+            let access = Access { width, handle, register };
+            let number = model.perform(&Call::WriteConfig { access, value: 3 }).number;
+            (number, model.parts.windows == altered, model.parts.header[3])
+        };
+        assert_eq!(write(3, 1, 0x04), (-8, true, 7));
+        assert_eq!(write(1, 3, 0x04), (-9, true, 7));
+        assert_eq!(write(4, 1, 0x06), (-5, true, 7));
+        assert_eq!(write(1, 1, 0x3C), (0, true, 7));
+        assert_eq!(write(1, 1, 0x04), (0, false, 7));
+        assert_eq!(model.parts.windows, loaded);
+    }
+
+    #[test]
+    fn widths_that_are_refused() {
+        let mut model = Second::new(Vec::new());
+        for width in [0, 3, 5, 0x101, u32::MAX] {
+            let access = Access { width, handle: 0, register: 1 };
+            let read = model.perform(&Call::ReadConfig(access));
+            assert_eq!((read.number, read.values[0]), (-8, 0));
+            let fast = model.perform(&Call::FastReadConfig(access));
+            assert_eq!((fast.number, fast.values[0]), (1, 0xFFFF_FFFF));
+            assert_eq!(model.perform(&Call::WriteConfig { access, value: 1 }).number, -8);
+        }
+    }
 }

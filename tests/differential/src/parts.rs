@@ -63,6 +63,24 @@ impl Parts {
         board
     }
 
+    /// The number of functions, never above 16.
+    pub fn functions(&self) -> usize {
+        (self.header[0] as usize).min(FUNCTIONS)
+    }
+
+    /// The windows of the kept list as it stands, up to its end.
+    pub fn listed(&self) -> Vec<KeptWindow> {
+        let windows = self.windows.iter().map(|&number| unpacked(number));
+        windows.take_while(|window| window.length != 0).collect()
+    }
+
+    /// The list that count, records and registers give, whatever is kept.
+    pub fn fresh_windows(&self) -> Windows {
+        let mut board = self.board();
+        board.refresh();
+        board.list.map(packed)
+    }
+
     /// The first place where these parts, the proved code's, differ from `second`'s.
     pub fn first_difference(&self, second: &Parts) -> Option<String> {
         first_difference("header", &self.header, &second.header)

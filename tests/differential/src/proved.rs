@@ -1,6 +1,6 @@
 //! The proved code behind its C functions. This is the only unsafe code of the tests.
 
-use crate::calls::{Answer, Call};
+use crate::calls::{Access, Answer, Call};
 use crate::guards::{Guarded, GuardedBytes};
 use crate::parts::*;
 
@@ -38,6 +38,44 @@ extern "C" {
         out_length: usize,
     ) -> u32;
     fn bios_list_window(windows: *const Windows, n: u32, values: *mut [u64; 6]) -> i32;
+    fn bios_find_pci_device(
+        header: *const Header,
+        registers: *const Registers,
+        id: u32,
+        index: u32,
+    ) -> i32;
+    fn bios_find_pci_classcode(
+        header: *const Header,
+        registers: *const Registers,
+        class_code: u32,
+        index: u32,
+    ) -> i32;
+    fn bios_read_config(
+        header: *const Header,
+        registers: *const Registers,
+        width: u32,
+        handle: u32,
+        register: u8,
+        value: *mut u32,
+    ) -> i32;
+    fn bios_fast_read_config(
+        header: *const Header,
+        registers: *const Registers,
+        width: u32,
+        handle: u32,
+        register: u8,
+        fault: *mut u32,
+    ) -> u32;
+    fn bios_write_config(
+        header: *const Header,
+        records: *const Records,
+        registers: *mut Registers,
+        windows: *mut Windows,
+        width: u32,
+        handle: u32,
+        register: u8,
+        value: u32,
+    ) -> i32;
 }
 
 /// What a value handed back holds before the call.
@@ -96,6 +134,13 @@ impl Proved {
             Call::WriteImage { out } => self.write_image(out)?,
             Call::ListWindow { n } => self.list_window(*n)?,
             Call::CheckImage { image, room } => check_image(image, *room)?,
+            Call::FindPciDevice { id, index } => self.find_pci_device(*id, *index),
+            Call::FindPciClasscode { class_code, index } => {
+                self.find_pci_classcode(*class_code, *index)
+            }
+            Call::ReadConfig(access) => self.read_config(*access)?,
+            Call::FastReadConfig(access) => self.fast_read_config(*access)?,
+            Call::WriteConfig { access, value } => self.write_config(*access, *value),
         };
         let intact = self.header.intact()
             && self.records.intact()
@@ -172,6 +217,61 @@ impl Proved {
             unsafe { bios_list_window(&raw mut self.windows.value, n, &raw mut values.value) };
         kept(values.intact(), "values")?;
         Ok(Answer { values: values.value, ..Answer::number(number.into()) })
+    }
+
+    fn find_pci_device(&mut self, id: u32, index: u32) -> Answer {
+        let (header, registers) = (&raw mut self.header.value, &raw mut self.registers.value);
+        // SAFETY: as in `load`.
+        let number = unsafe { bios_find_pci_device(header, registers, id, index) };
+        Answer::number(number.into())
+    }
+
+    fn find_pci_classcode(&mut self, class_code: u32, index: u32) -> Answer {
+        let (header, registers) = (&raw mut self.header.value, &raw mut self.registers.value);
+        // SAFETY: as in `load`.
+        let number = unsafe { bios_find_pci_classcode(header, registers, class_code, index) };
+        Answer::number(number.into())
+    }
+
+    fn read_config(&mut self, access: Access) -> Result<Answer, String> {
+        let Access { width, handle, register } = access;
+        let (header, registers) = (&raw mut self.header.value, &raw mut self.registers.value);
+        let mut value = Guarded::new(UNSET);
+        let value_at = &raw mut value.value;
+        // SAFETY: as in `load`.
+        let number =
+            unsafe { bios_read_config(header, registers, width, handle, register, value_at) };
+        kept(value.intact(), "value")?;
+        Ok(Answer::read(number, value.value))
+    }
+
+    fn fast_read_config(&mut self, access: Access) -> Result<Answer, String> {
+        let Access { width, handle, register } = access;
+        let (header, registers) = (&raw mut self.header.value, &raw mut self.registers.value);
+        let mut fault = Guarded::new(UNSET);
+        let fault_at = &raw mut fault.value;
+        // SAFETY: as in `load`.
+        let value =
+            unsafe { bios_fast_read_config(header, registers, width, handle, register, fault_at) };
+        kept(fault.intact(), "fault flag")?;
+        Ok(Answer::fast_read(value, fault.value))
+    }
+
+    fn write_config(&mut self, access: Access, value: u32) -> Answer {
+        // SAFETY: as in `load`.
+        let number = unsafe {
+            bios_write_config(
+                &raw mut self.header.value,
+                &raw mut self.records.value,
+                &raw mut self.registers.value,
+                &raw mut self.windows.value,
+                access.width,
+                access.handle,
+                access.register,
+                value,
+            )
+        };
+        Answer::number(number.into())
     }
 
     /// Gives the parts other contents, as a caller may.

@@ -1,12 +1,12 @@
 //! One seeded run: random calls on one board and one cell buffer, compared after each.
 
 use crate::alter::{alter, use_board};
+use crate::arguments::{configuration, search};
 use crate::boards::RandomBoard;
 use crate::calls::Call;
 use crate::damage::damaged;
-use crate::model::Second;
-use crate::parts::{first_difference, Parts};
-use crate::proved::Proved;
+use crate::pair::Pair;
+use crate::parts::Parts;
 use crate::random::Random;
 use crate::tally::Tally;
 use second::{RECORD_LENGTH, TRAILER_LENGTH};
@@ -14,8 +14,7 @@ use second::{RECORD_LENGTH, TRAILER_LENGTH};
 struct Run<'a> {
     random: Random,
     boards: Vec<RandomBoard>,
-    proved: Proved,
-    second: Second,
+    pair: Pair,
     /// The image that was written last.
     written: Vec<u8>,
     tally: &'a mut Tally,
@@ -25,7 +24,7 @@ struct Run<'a> {
 /// Performs the run of a seed; a difference is told with the call that made it.
 pub fn run(seed: u64, tally: &mut Tally) -> Result<(), String> {
     let mut run = Run::new(seed, tally);
-    for _ in 0..run.random.within(10..=50) {
+    for _ in 0..run.random.within(15..=75) {
         run.step().map_err(|difference| format!("seed {seed}, {difference}"))?;
     }
     Ok(())
@@ -36,13 +35,12 @@ impl<'a> Run<'a> {
         let mut random = Random::new(seed);
         let boards: Vec<_> = (0..3).map(|_| RandomBoard::new(&mut random)).collect();
         let length = cell_buffer_length(&mut random, boards[0].cells());
-        let second = Second::new(random.bytes(length));
-        let proved = Proved::new(&second.parts, &second.cells);
-        Run { random, boards, proved, second, written: Vec::new(), tally, calls: 0 }
+        let pair = Pair::new(random.bytes(length));
+        Run { random, boards, pair, written: Vec::new(), tally, calls: 0 }
     }
 
     fn step(&mut self) -> Result<(), String> {
-        match self.random.below(20) {
+        match self.random.below(30) {
             0..=5 => self.load(),
             6..=8 => self.reset(),
             9..=11 => self.write_image(),
@@ -50,43 +48,50 @@ impl<'a> Run<'a> {
             13 => self.list_some(),
             14 | 15 => self.check_image(),
             16 => self.change_cells(),
-            17 | 18 => self.change_parts(use_board),
-            _ => {
-                let cells = self.second.cells.len();
+            17 => self.change_parts(use_board),
+            18 | 19 => {
+                let cells = self.pair.cells().len();
                 self.change_parts(|random, parts| alter(random, parts, cells))
             }
+            20..=25 => self.several(configuration),
+            _ => self.several(search),
         }
     }
 
     /// Performs a call in both implementations and compares all that it leaves.
     fn call(&mut self, call: Call) -> Result<(), String> {
         self.calls += 1;
-        let expected = self.second.perform(&call);
-        let outcome = self.proved.perform(&call).and_then(|answer| {
-            let difference = answer
-                .first_difference(&expected)
-                .or_else(|| self.proved.parts().first_difference(&self.second.parts))
-                .or_else(|| first_difference("cells", self.proved.cells(), &self.second.cells));
-            difference.map_or(Ok(()), Err)
-        });
-        self.tally.count(&call, &expected);
-        if let (Call::WriteImage { .. }, 0) = (&call, expected.number) {
-            self.written = expected.out;
+        let outcome = self.pair.call(&call, self.tally);
+        let told = |difference| format!("call {} ({call}): {difference}", self.calls);
+        let answer = outcome.map_err(told)?;
+        if let (Call::WriteImage { .. }, 0) = (&call, answer.number) {
+            self.written = answer.out;
             self.written.truncate(self.image_length());
         }
-        outcome.map_err(|difference| format!("call {} ({call}): {difference}", self.calls))
+        Ok(())
+    }
+
+    /// Calls of one kind in a row: what one leaves is the next one's board. On an empty
+    /// board there is not much to ask.
+    fn several(&mut self, choose: fn(&mut Random, &Parts) -> Call) -> Result<(), String> {
+        let most = if self.pair.parts().functions() == 0 { 1 } else { 6 };
+        for _ in 0..self.random.within(1..=most) {
+            let call = choose(&mut self.random, self.pair.parts());
+            self.call(call)?;
+        }
+        Ok(())
     }
 
     fn load(&mut self) -> Result<(), String> {
         let (image, cells) = self.image();
-        let whole = self.second.cells.len();
+        let whole = self.pair.cells().len();
         let lent = self.lent(whole, cells);
         self.call(Call::Load { image, lent })
     }
 
     fn reset(&mut self) -> Result<(), String> {
-        let total = *self.second.parts.cell_offsets.last().unwrap_or(&0);
-        let lent = self.lent(self.second.cells.len(), total as usize);
+        let total = *self.pair.parts().cell_offsets.last().unwrap_or(&0);
+        let lent = self.lent(self.pair.cells().len(), total as usize);
         self.call(Call::Reset { lent })
     }
 
@@ -100,9 +105,7 @@ impl<'a> Run<'a> {
 
     /// Lists every window, the place after the last, the next, and the last of all.
     fn list_all(&mut self) -> Result<(), String> {
-        let ended = |number: &u64| number >> 1 & 0x1_FFFF == 0;
-        let windows = &self.second.parts.windows;
-        let end = windows.iter().position(ended).unwrap_or(windows.len()) as u32;
+        let end = self.pair.parts().listed().len() as u32;
         for n in (0..=end + 1).chain([u32::MAX]) {
             self.call(Call::ListWindow { n })?;
         }
@@ -127,14 +130,12 @@ impl<'a> Run<'a> {
 
     /// Writes cells as data calls do, and others too.
     fn change_cells(&mut self) -> Result<(), String> {
-        self.random.fill(&mut self.second.cells);
-        self.proved.lend_cells(&self.second.cells);
+        self.pair.change_cells(|cells| self.random.fill(cells));
         Ok(())
     }
 
     fn change_parts(&mut self, change: impl Fn(&mut Random, &mut Parts)) -> Result<(), String> {
-        change(&mut self.random, &mut self.second.parts);
-        self.proved.lend(&self.second.parts);
+        self.pair.change_parts(|parts| change(&mut self.random, parts));
         Ok(())
     }
 
@@ -167,7 +168,7 @@ impl<'a> Run<'a> {
 
     /// The length of the image that the writer writes.
     fn image_length(&self) -> usize {
-        RECORD_LENGTH * self.second.parts.board().functions() + TRAILER_LENGTH
+        RECORD_LENGTH * self.pair.parts().functions() + TRAILER_LENGTH
     }
 }
 

@@ -1,14 +1,13 @@
 //! Image checks of B1 with every value of every byte, window shape and trailer field.
 
 use crate::calls::Call;
-use crate::model::Second;
-use crate::proved::Proved;
+use crate::pair::Pair;
 use crate::tally::Tally;
 use second::board_b1::{b1_image, b1_records, image_of, set_window, Shape};
 use second::{RECORD_LENGTH, TRAILER_LENGTH};
 
 pub fn sweep(tally: &mut Tally) -> Result<(), String> {
-    let mut checks = Checks::new(tally);
+    let mut checks = Checks { pair: Pair::new(Vec::new()), tally };
     record_bytes(&mut checks)?;
     shapes(&mut checks)?;
     trailers(&mut checks)?;
@@ -17,27 +16,15 @@ pub fn sweep(tally: &mut Tally) -> Result<(), String> {
 
 /// Both implementations, before the first load.
 struct Checks<'a> {
-    proved: Proved,
-    second: Second,
+    pair: Pair,
     tally: &'a mut Tally,
 }
 
-impl<'a> Checks<'a> {
-    fn new(tally: &'a mut Tally) -> Self {
-        let second = Second::new(Vec::new());
-        let proved = Proved::new(&second.parts, &second.cells);
-        Checks { proved, second, tally }
-    }
-
+impl Checks<'_> {
     fn check(&mut self, image: Vec<u8>, what: impl Fn() -> String) -> Result<(), String> {
         let call = Call::CheckImage { image, room: 65_536 };
-        let expected = self.second.perform(&call);
-        self.tally.count(&call, &expected);
-        let outcome = self.proved.perform(&call).and_then(|answer| {
-            let difference = answer.first_difference(&expected);
-            difference.map_or(Ok(()), Err)
-        });
-        outcome.map_err(|difference| format!("B1 with {}: {difference}", what()))
+        let outcome = self.pair.call(&call, self.tally);
+        outcome.map(drop).map_err(|difference| format!("B1 with {}: {difference}", what()))
     }
 }
 

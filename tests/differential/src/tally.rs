@@ -1,23 +1,24 @@
 //! How often each answer came up, and which that can occur never did.
 
 use crate::calls::{Answer, Call};
+use crate::met;
+use crate::parts::Parts;
 use std::collections::BTreeMap;
 use std::ops::RangeInclusive;
 
-/// Every answer that can occur, by call.
-const ANSWERS: [(&str, &[RangeInclusive<i64>]); 5] = [
+/// Every answer that can occur, by call; of a fast read, the fault flag.
+const ANSWERS: [(&str, &[RangeInclusive<i64>]); 10] = [
     ("load", &[0..=8]),
     ("check_image", &[0..=8]),
     ("write_image", &[0..=1, 3..=3]),
     ("reset", &[-7..=-7, 0..=0]),
     ("list_window", &[-4..=-4, 0..=0]),
+    ("find_pci_device", &[-4..=-4, 1..=16]),
+    ("find_pci_classcode", &[-4..=-4, 1..=16]),
+    ("read_config", &[-9..=-8, -5..=-5, 0..=0]),
+    ("fast_read_config", &[0..=1]),
+    ("write_config", &[-9..=-8, -5..=-5, 0..=0]),
 ];
-
-/// Further things that a set of runs must have met.
-const LAST_PLACE: &str = "a rule broken at place 15";
-const CONTESTED: &str = "a contested window";
-const TO_THE_END: &str = "a window that ends at 2^32";
-const NINETY_SIX: &str = "window 95 of a list";
 
 #[derive(Default)]
 pub struct Tally {
@@ -27,23 +28,13 @@ pub struct Tally {
 }
 
 impl Tally {
-    pub fn count(&mut self, call: &Call, answer: &Answer) {
+    /// Counts a call with its answer, and with the parts before and after it.
+    pub fn count(&mut self, call: &Call, answer: &Answer, before: &Parts, after: &Parts) {
         self.calls += 1;
         *self.answers.entry((call.name(), answer.number)).or_default() += 1;
-        let [first, start, length, _, _, contested] = answer.values;
-        match call {
-            Call::Load { .. } => self.meet(LAST_PLACE, first == 15),
-            Call::ListWindow { n } if answer.number == 0 => {
-                self.meet(CONTESTED, contested == 1);
-                self.meet(TO_THE_END, start + length == 1 << 32);
-                self.meet(NINETY_SIX, *n == 95);
-            }
-            _ => {}
+        for (what, met) in met::met(call, answer, before, after) {
+            *self.met.entry(what).or_default() += u64::from(met);
         }
-    }
-
-    fn meet(&mut self, what: &'static str, met: bool) {
-        *self.met.entry(what).or_default() += u64::from(met);
     }
 
     /// What can occur and never did.
@@ -56,7 +47,7 @@ impl Tally {
                 }
             }
         }
-        for what in [LAST_PLACE, CONTESTED, TO_THE_END, NINETY_SIX] {
+        for what in met::ALL {
             if self.met.get(what).is_none_or(|&times| times == 0) {
                 missing.push(what.to_string());
             }

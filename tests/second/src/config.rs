@@ -30,7 +30,7 @@ impl Board {
         for ((kept, mask), byte) in registers.iter_mut().zip(masks).zip(bytes).take(width.bytes()) {
             *kept = *kept & !mask | byte & mask;
         }
-        if moves_windows(first, width) {
+        if moves_windows(register, width) {
             self.refresh();
         }
         SUCCESSFUL
@@ -53,7 +53,12 @@ impl Board {
 }
 
 /// Whether an access addresses the command byte or a base register.
-fn moves_windows(first: usize, width: Width) -> bool {
+///
+/// An accepted write that does works out the whole list afresh; every other write, refused
+/// or not, leaves it. It shows only on an altered board, and there document 01 leaves the
+/// list after a configuration write open: settled in docs/DECISIONS.md.
+pub fn moves_windows(register: u8, width: Width) -> bool {
+    let first = usize::from(register);
     let end = first + width.bytes();
     let touches = |from, to| first < to && from < end;
     touches(COMMAND, COMMAND + 1) || touches(FIRST_BASE, FIRST_BASE + 4 * BASES)

@@ -22,6 +22,7 @@ mod windows;
 mod tests;
 
 pub use board::{Board, FUNCTIONS};
+pub use config::moves_windows;
 pub use image::{check_image, Verdict, TRAILER_LENGTH};
 pub use interrupt::Hook;
 pub use number::*;

@@ -1,5 +1,7 @@
 -- `perform`: each arm by the contract of its call.
-use Rattle.bios.proofs.Arms.{arm-load, arm-reset, arm-write, arm-list}
+use denote.Ref.{now}
+use Rattle.bios.proofs.Found.{found-small}
+use Rattle.bios.proofs.Arms.{arm-load, arm-reset, arm-write, arm-search, device-step, class-step, arm-read, arm-fast-read, arm-write-config, arm-list}
 use borrow.Author.Needs.{needs}
 use Rattle.bios.proofs.perform.perform.Statement.{statement}
 use Rattle.bios.proofs.perform.perform.Tie as tie
@@ -34,6 +36,51 @@ of-number-requires-2 c κs = search needs
 enum-known-call : tie.Need-enum-known-call
 enum-known-call c = search needs
 
+find-pci-device-requires : tie.Need-find-pci-device-requires
+find-pci-device-requires c κs = search needs
+
+of-search-requires : tie.Need-of-search-requires
+of-search-requires c κs = found-small (now (c .before .before .before .before .before .before .before .before .args .header)) _ _ _ (c .find-pci-device .ensures)
+
+enum-known-call-2 : tie.Need-enum-known-call-2
+enum-known-call-2 c = search needs
+
+find-pci-classcode-requires : tie.Need-find-pci-classcode-requires
+find-pci-classcode-requires c κs = search needs
+
+of-search-requires-2 : tie.Need-of-search-requires-2
+of-search-requires-2 c κs = found-small (now (c .before .before .before .before .before .before .before .before .args .header)) _ _ _ (c .find-pci-classcode .ensures)
+
+enum-known-call-3 : tie.Need-enum-known-call-3
+enum-known-call-3 c = search needs
+
+read-config-requires : tie.Need-read-config-requires
+read-config-requires c κs = search needs
+
+of-read-requires : tie.Need-of-read-requires
+of-read-requires c κs = search needs
+
+enum-known-call-4 : tie.Need-enum-known-call-4
+enum-known-call-4 c = search needs
+
+fast-read-config-requires : tie.Need-fast-read-config-requires
+fast-read-config-requires c κs = search needs
+
+of-fast-read-requires : tie.Need-of-fast-read-requires
+of-fast-read-requires c κs = search needs
+
+enum-known-call-5 : tie.Need-enum-known-call-5
+enum-known-call-5 c = search needs
+
+write-config-requires : tie.Need-write-config-requires
+write-config-requires c κs = search needs
+
+of-status-requires-2 : tie.Need-of-status-requires-2
+of-status-requires-2 c κs = search needs
+
+enum-known-call-6 : tie.Need-enum-known-call-6
+enum-known-call-6 c = search needs
+
 list-window-requires : tie.Need-list-window-requires
 list-window-requires c κs = search needs
 
@@ -62,7 +109,22 @@ returns-3 : tie.Need-returns-3
 returns-3 c = arm-write _ _ _ _ _ _ (c .before .before .before .before .before .before .before .enum-told3 .given .1) (c .of-number2 .ensures) (c .before .before .before .write-image .ensures)
 
 returns-4 : tie.Need-returns-4
-returns-4 c = arm-list _ _ _ _ _ _ (c .before .before .before .before .call .given .1) (c .of-listing .ensures) (c .before .list-window .ensures)
+returns-4 c = arm-search _ _ _ _ _ _ _ (device-step _ _ _ _ _ (c .before .before .before .before .before .call .given .1)) (c .of-search .ensures) (c .before .find-pci-device .ensures)
+
+returns-5 : tie.Need-returns-5
+returns-5 c = arm-search _ _ _ _ _ _ _ (class-step _ _ _ _ _ (c .before .before .before .before .before .call2 .given .1)) (c .of-search2 .ensures) (c .before .find-pci-classcode .ensures)
+
+returns-6 : tie.Need-returns-6
+returns-6 c = arm-read _ _ _ _ _ _ _ _ (c .before .before .before .before .before .call3 .given .1) (c .of-read .ensures) (c .before .read-config .ensures)
+
+returns-7 : tie.Need-returns-7
+returns-7 c = arm-fast-read _ _ _ _ _ _ _ _ (c .before .before .before .before .before .call4 .given .1) (c .of-fast-read .ensures) (c .before .fast-read-config .ensures)
+
+returns-8 : tie.Need-returns-8
+returns-8 c = arm-write-config _ _ _ _ _ _ _ _ _ _ _ (c .before .before .before .before .before .before .before .call5 .given .1) (c .of-status2 .ensures) (c .before .write-config .ensures)
+
+returns-9 : tie.Need-returns-9
+returns-9 c = arm-list _ _ _ _ _ _ (c .before .before .before .before .call6 .given .1) (c .of-listing .ensures) (c .before .list-window .ensures)
 
 pub perform-spec : {M : Type 1} → statement M
 perform-spec =
@@ -78,6 +140,21 @@ perform-spec =
     write-image-requires
     of-number-requires-2
     enum-known-call
+    find-pci-device-requires
+    of-search-requires
+    enum-known-call-2
+    find-pci-classcode-requires
+    of-search-requires-2
+    enum-known-call-3
+    read-config-requires
+    of-read-requires
+    enum-known-call-4
+    fast-read-config-requires
+    of-fast-read-requires
+    enum-known-call-5
+    write-config-requires
+    of-status-requires-2
+    enum-known-call-6
     list-window-requires
     of-listing-requires
     same-length
@@ -87,4 +164,9 @@ perform-spec =
     returns-2
     same-length-4
     returns-3
-    returns-4)
+    returns-4
+    returns-5
+    returns-6
+    returns-7
+    returns-8
+    returns-9)

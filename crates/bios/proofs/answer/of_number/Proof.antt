@@ -3,8 +3,8 @@ use Prim.Native.Nat.{_<_}
 use Rattle.bios.proofs.Signed.{small, number-refuses}
 use borrow.Author.Needs.{needs}
 use native.Mathlib.Omega.{arith}
-use Rattle.bios.proofs.perform.of_number.Statement.{statement}
-use Rattle.bios.proofs.perform.of_number.Tie as tie
+use Rattle.bios.proofs.answer.of_number.Statement.{statement}
+use Rattle.bios.proofs.answer.of_number.Tie as tie
 
 cast-t3 : tie.Need-cast-t3
 cast-t3 c = search needs

@@ -1,8 +1,8 @@
 -- `values`: a mark is 1 or 0.
 use Rattle.bios.proofs.Signed.{bool-number}
 use borrow.Author.Needs.{needs}
-use Rattle.bios.proofs.perform.values.Statement.{statement}
-use Rattle.bios.proofs.perform.values.Tie as tie
+use Rattle.bios.proofs.answer.values.Statement.{statement}
+use Rattle.bios.proofs.answer.values.Tie as tie
 
 cast-t11 : tie.Need-cast-t11
 cast-t11 c = search needs

@@ -1,9 +1,9 @@
--- `of_status`: the status is read back, and refuses where it is not 0.
+-- `of_value`: the status is read back, and refuses where it is not 0.
 use mir.Syntax.{w32}
 use mir.Val.{SFits}
 use Rattle.bios.proofs.Signed.{back, bits-refuse}
-use Rattle.bios.proofs.perform.of_status.Statement.{statement}
-use Rattle.bios.proofs.perform.of_status.Tie as tie
+use Rattle.bios.proofs.answer.of_value.Statement.{statement}
+use Rattle.bios.proofs.answer.of_value.Tie as tie
 
 returns : tie.Need-returns
 returns c =
@@ -11,5 +11,5 @@ returns c =
     let f : SFits w32 z = record { sfits = c .before .struct-told .given .0 .1 } in
     rw (back z f, bits-refuse z f)
 
-pub of-status-spec : {M : Type 1} → statement M
-of-status-spec = tie.close (tie.spec returns)
+pub of-value-spec : {M : Type 1} → statement M
+of-value-spec = tie.close (tie.spec returns)

@@ -1,7 +1,7 @@
 -- `of_listing`: a window with its values, or the refusal.
 use borrow.Author.Needs.{needs}
-use Rattle.bios.proofs.perform.of_listing.Statement.{statement}
-use Rattle.bios.proofs.perform.of_listing.Tie as tie
+use Rattle.bios.proofs.answer.of_listing.Statement.{statement}
+use Rattle.bios.proofs.answer.of_listing.Tie as tie
 
 enum-known-listing : tie.Need-enum-known-listing
 enum-known-listing c = search needs

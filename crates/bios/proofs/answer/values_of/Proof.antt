@@ -1,7 +1,7 @@
 -- `values_of`: the space tells the first value.
 use borrow.Author.Needs.{needs}
-use Rattle.bios.proofs.perform.values_of.Statement.{statement}
-use Rattle.bios.proofs.perform.values_of.Tie as tie
+use Rattle.bios.proofs.answer.values_of.Statement.{statement}
+use Rattle.bios.proofs.answer.values_of.Tie as tie
 
 enum-known-window : tie.Need-enum-known-window
 enum-known-window c = search needs

@@ -1,0 +1,49 @@
+-- `bios_write_config`: the write of a known width, or the refusal.
+use mathlib.Core.Path.{sym, _∙_}
+use Rattle.bios.proofs.Signed.{back}
+use borrow.Author.Needs.{needs}
+use Rattle.bios.proofs.config_exports.bios_write_config.Statement.{statement}
+use Rattle.bios.proofs.config_exports.bios_write_config.Tie as tie
+
+width-of-requires : tie.Need-width-of-requires
+width-of-requires c κs = search needs
+
+enum-known-width : tie.Need-enum-known-width
+enum-known-width c = search needs
+
+write-config-requires : tie.Need-write-config-requires
+write-config-requires c κs = search needs
+
+number-requires : tie.Need-number-requires
+number-requires c κs = search needs
+
+-- /work/w2/target/rlib/board.rlib/interface/lang/src/status.rt:9:36
+enum-told : tie.Need-enum-told
+enum-told c = search needs
+
+number-requires-2 : tie.Need-number-requires-2
+number-requires-2 c κs = search needs
+
+returns : tie.Need-returns
+returns c =
+    let r = c .before .write-config in
+    let w = sym (c .before .before .before .before .before .before .before .width-of .ensures) ∙ c .before .before .before .before .before .width .given .1 in
+    rw (back _ (record { sfits = c .number .ok }), c .number .ensures, w, ← r .ensures)
+
+returns-2 : tie.Need-returns-2
+returns-2 c =
+    let w = sym (c .before .before .before .width-of .ensures) ∙ c .before .enum-told .given .1 in
+    rw (back _ (record { sfits = c .number2 .ok }), c .number2 .ensures, w)
+
+pub bios-write-config-spec : {M : Type 1} → statement M
+bios-write-config-spec =
+    tie.close
+    (tie.spec
+    width-of-requires
+    enum-known-width
+    write-config-requires
+    number-requires
+    enum-told
+    number-requires-2
+    returns
+    returns-2)

@@ -1,0 +1,149 @@
+// Searches and configuration calls for C. A width is a number here; another than 1, 2 or 4 is refused before all else.
+use crate::answer::of_search;
+use board::layout::Header;
+use board::layout::Records;
+use board::layout::Registers;
+use board::layout::Windows;
+use board::number::Width;
+use board::status::Status;
+use config::read::fast_read_config;
+use config::read::read_config;
+use config::search::find_pci_classcode;
+use config::search::find_pci_device;
+use config::write::write_config;
+ghost use mathlib.Core.Path.{_≡_};
+ghost use Rattle.board.specs.Handles.{functionCount};
+ghost use Rattle.board.specs.Layout.{registerByte};
+ghost use Rattle.config.specs.Search.{devices, classes, searchNumber};
+ghost use Rattle.config.specs.Write.{wrote};
+ghost use Rattle.bios.specs.Exports.{status, widthOf, readNumbers, askedRead, fastNumbers, fastShown, askedFastRead, askedWrite};
+
+// A width that C asked for.
+pub(crate) enum AskedWidth {
+    Known(Width),
+    Other,
+}
+
+fn width_of(width: u32) -> AskedWidth
+    ensures { λ r. ⌜ r ≡ widthOf width ⌝ }
+{
+    if width == 1 {
+        return AskedWidth::Known(Width::Byte);
+    }
+    if width == 2 {
+        return AskedWidth::Known(Width::Word);
+    }
+    if width == 4 {
+        return AskedWidth::Known(Width::Long);
+    }
+    AskedWidth::Other
+}
+
+// The handle of the match with so many matches before it, or -4.
+#[no_mangle]
+pub extern "C" fn bios_find_pci_device(
+    header: &Header,
+    registers: &Registers,
+    id: u32,
+    index: u32,
+) -> i32
+    ensures { λ r. ⌜ r ≡ searchNumber (devices id (functionCount (now (header .entry))) (registerByte (now (registers .entry)))) index ⌝ }
+{
+    let a = of_search(find_pci_device(header, registers, id, index));
+    a.number
+}
+
+#[no_mangle]
+pub extern "C" fn bios_find_pci_classcode(
+    header: &Header,
+    registers: &Registers,
+    class: u32,
+    index: u32,
+) -> i32
+    ensures { λ r. ⌜ r ≡ searchNumber (classes class (functionCount (now (header .entry))) (registerByte (now (registers .entry)))) index ⌝ }
+{
+    let a = of_search(find_pci_classcode(header, registers, class, index));
+    a.number
+}
+
+// Reads a number of a width; the value, 0 where it is refused, goes to `value`.
+#[no_mangle]
+pub extern "C" fn bios_read_config(
+    header: &Header,
+    registers: &Registers,
+    width: u32,
+    handle: u32,
+    register: u8,
+    value: &mut u32,
+) -> i32
+    ensures { λ r. ⌜ readNumbers r (now (value .exit)) ≡ askedRead (widthOf width) (now (header .entry)) (now (registers .entry)) handle register ⌝ }
+{
+    match width_of(width) {
+        AskedWidth::Known(width) => {
+            let read = read_config(header, registers, width, handle, register);
+            *value = read.value;
+            read.status.number()
+        }
+        AskedWidth::Other => {
+            *value = 0;
+            Status::GENERAL_ERROR.number()
+        }
+    }
+}
+
+// Reads it fast: the value, and in `fault` 1 where it is refused.
+#[no_mangle]
+pub extern "C" fn bios_fast_read_config(
+    header: &Header,
+    registers: &Registers,
+    width: u32,
+    handle: u32,
+    register: u8,
+    fault: &mut u32,
+) -> u32
+    ensures { λ r. ⌜ fastNumbers r (now (fault .exit)) ≡ fastShown (askedFastRead (widthOf width) (now (header .entry)) (now (registers .entry)) handle register) ⌝ }
+{
+    match width_of(width) {
+        AskedWidth::Known(width) => {
+            let read = fast_read_config(header, registers, width, handle, register);
+            *fault = read.fault as u32;
+            read.value
+        }
+        AskedWidth::Other => {
+            *fault = 1;
+            0xFFFFFFFF
+        }
+    }
+}
+
+// Writes the low bytes of a value.
+#[no_mangle]
+pub extern "C" fn bios_write_config(
+    header: &Header,
+    records: &Records,
+    registers: &mut Registers,
+    windows: &mut Windows,
+    width: u32,
+    handle: u32,
+    register: u8,
+    value: u32,
+) -> i32
+    ensures { λ r. ⌜ wrote (status r) (now (registers .exit)) (now (windows .exit)) ≡ askedWrite (widthOf width) (now (header .entry)) (now (records .entry)) (now (registers .entry)) (now (windows .entry)) handle register value ⌝ }
+{
+    match width_of(width) {
+        AskedWidth::Known(width) => {
+            let s = write_config(
+                header,
+                records,
+                registers,
+                windows,
+                width,
+                handle,
+                register,
+                value,
+            );
+            s.number()
+        }
+        AskedWidth::Other => Status::GENERAL_ERROR.number(),
+    }
+}

@@ -1,0 +1,185 @@
+// Board B1, built in code, and rows of calls on a fresh one.
+use crate::boards::build;
+use crate::boards::put_long;
+use crate::boards::show;
+use crate::rows::begin;
+use crate::rows::decimal;
+use crate::rows::end;
+use crate::rows::hexadecimal;
+use crate::rows::number;
+use crate::rows::text;
+use board::layout::BASE_0;
+use board::layout::COMMAND;
+use board::layout::FUNCTIONS;
+use board::layout::Header;
+use board::layout::MASKS;
+use board::layout::RECORD;
+use board::layout::REGISTER_BYTES;
+use board::layout::Records;
+use board::layout::Registers;
+use board::layout::WINDOWS;
+use board::number::Width;
+use board::number::put_byte;
+use config::read::fast_read_config;
+use config::read::read_config;
+use config::search::Search;
+use config::search::find_pci_classcode;
+use config::search::find_pci_device;
+use config::write::write_config;
+use window_list::refresh::refresh;
+
+// Vendor and device, class, line and pin of a function, and the masks of command, line and base 0.
+fn set_function(records: &mut Records, registers: &mut Registers, function: usize) {
+    if FUNCTIONS <= function {
+        return;
+    }
+    let first = REGISTER_BYTES * function;
+    let masks = RECORD * function + MASKS as usize;
+    put_long(registers, first, 0x00010F0F);
+    put_long(registers, first + 0x08, 0x11800000);
+    put_long(registers, first + 0x3C, 0x00000105);
+    put_byte(records, masks + COMMAND as usize, 0x03);
+    put_byte(records, masks + 0x3C, 0xFF);
+    put_long(records, masks + BASE_0 as usize, 0xFFFFFC00);
+}
+
+// B1's two functions: the header is theirs, the records and registers are set.
+pub(crate) fn set_b1(records: &mut Records, registers: &mut Registers) -> Header {
+    build(
+        &[
+            0x1_3_0_0a_80000000,
+            0x2_3_0_0a_80000400,
+            0x2_3_1_04_00000101,
+        ],
+        records,
+        registers,
+    );
+    set_function(records, registers, 0);
+    set_function(records, registers, 1);
+    put_long(
+        records,
+        RECORD + MASKS as usize + BASE_0 as usize + 4,
+        0xFFFFFFF0,
+    );
+    [2, 0, 0, 0]
+}
+
+// A search's handle or number.
+fn found(search: Search) {
+    match search {
+        Search::Found(handle) => decimal(handle),
+        Search::Refused(status) => number(status.number()),
+    }
+}
+
+// A row with a search by device.
+pub(crate) fn device(name: &[u8], id: u32, index: u32, sentence: &[u8]) {
+    let mut records = [0u8; FUNCTIONS * RECORD];
+    let mut registers = [0u8; FUNCTIONS * REGISTER_BYTES];
+    let header = set_b1(&mut records, &mut registers);
+    begin(name);
+    found(find_pci_device(&header, &registers, id, index));
+    end(sentence);
+}
+
+// A row with a search by class.
+pub(crate) fn class(name: &[u8], class: u32, index: u32, sentence: &[u8]) {
+    let mut records = [0u8; FUNCTIONS * RECORD];
+    let mut registers = [0u8; FUNCTIONS * REGISTER_BYTES];
+    let header = set_b1(&mut records, &mut registers);
+    begin(name);
+    found(find_pci_classcode(&header, &registers, class, index));
+    end(sentence);
+}
+
+// A row with a read, plain and then fast.
+pub(crate) fn read(name: &[u8], width: Width, handle: u32, register: u8, sentence: &[u8]) {
+    let mut records = [0u8; FUNCTIONS * RECORD];
+    let mut registers = [0u8; FUNCTIONS * REGISTER_BYTES];
+    let header = set_b1(&mut records, &mut registers);
+    let plain = read_config(&header, &registers, width, handle, register);
+    let fast = fast_read_config(&header, &registers, width, handle, register);
+    begin(name);
+    number(plain.status.number());
+    hexadecimal(plain.value);
+    text(b"; fast");
+    hexadecimal(fast.value);
+    if fast.fault {
+        text(b" fault");
+    }
+    end(sentence);
+}
+
+// A row with a write, and the longword that the register then is in.
+pub(crate) fn write(
+    name: &[u8],
+    width: Width,
+    handle: u32,
+    register: u8,
+    value: u32,
+    sentence: &[u8],
+) {
+    let mut records = [0u8; FUNCTIONS * RECORD];
+    let mut registers = [0u8; FUNCTIONS * REGISTER_BYTES];
+    let mut list = [0u64; WINDOWS];
+    let header = set_b1(&mut records, &mut registers);
+    let written = write_config(
+        &header,
+        &records,
+        &mut registers,
+        &mut list,
+        width,
+        handle,
+        register,
+        value,
+    );
+    let read = read_config(&header, &registers, Width::Long, handle, register / 4 * 4);
+    begin(name);
+    number(written.number());
+    text(b";");
+    number(read.status.number());
+    hexadecimal(read.value);
+    end(sentence);
+}
+
+// A row with the window list after a write, and after a second one.
+pub(crate) fn move_window(
+    name: &[u8],
+    width: Width,
+    handle: u32,
+    register: u8,
+    first: u32,
+    second: u32,
+    sentence: &[u8],
+) {
+    let mut records = [0u8; FUNCTIONS * RECORD];
+    let mut registers = [0u8; FUNCTIONS * REGISTER_BYTES];
+    let mut list = [0u64; WINDOWS];
+    let header = set_b1(&mut records, &mut registers);
+    refresh(&header, &records, &registers, &mut list);
+    write_config(
+        &header,
+        &records,
+        &mut registers,
+        &mut list,
+        width,
+        handle,
+        register,
+        first,
+    );
+    begin(name);
+    show(&list);
+    write_config(
+        &header,
+        &records,
+        &mut registers,
+        &mut list,
+        width,
+        handle,
+        register,
+        second,
+    );
+    text(b"; then");
+    show(&list);
+    end(sentence);
+}

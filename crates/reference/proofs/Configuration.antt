@@ -1,0 +1,119 @@
+-- The simulation of searches and configuration calls.
+use Prim.Native.Nat.{ℕ, _<_}
+use native.Mathlib.Omega.{arith}
+use mathlib.Core.Bool.{Bool}
+use mathlib.Core.Path.{_≡_, refl, sym, ap}
+use mathlib.Core.List.{List}
+use lib.ListN.{length}
+use Rattle.board.specs.declared.number.Width.{Width}
+use Rattle.board.specs.Handles.{isHandle}
+use Rattle.board.specs.Layout.{registersEach, registerByte}
+use Rattle.board.specs.Parts.{withRegisters}
+use Rattle.window_list.specs.Windows.{windowList}
+use Rattle.window_list.specs.Kept.{keptList}
+use Rattle.config.specs.Target.{target}
+use Rattle.config.specs.Read.{readOf, fastReadOf}
+use Rattle.config.specs.Write.{Wrote, writeTo}
+use Rattle.config.specs.Search.{deviceMatches, classMatches, matching, searched, foundNumber, searchNumber}
+use Rattle.config.specs.declared.target.Target.{Target}
+use Rattle.config.proofs.Moves.{list-follows}
+use Rattle.config.proofs.Searches.{search-number, matching-same, device-same, class-same}
+use Rattle.reference.specs.declared.Call.the-variants.{FindPciDevice, FindPciClasscode, ReadConfig, FastReadConfig, WriteConfig}
+use Rattle.reference.specs.Answers.{ofStatus, ofSearch}
+use Rattle.reference.specs.State.{next, step}
+use Rattle.reference.specs.Reference.{Reference, told, windowsOf, targetOf, registersAfter, withRegistersOf, writeOf, referenceStep}
+use Rattle.reference.specs.Run.{partsOf}
+use Rattle.reference.proofs.Tests.{ifTarget}
+use Rattle.reference.proofs.Registers.{flat, flat-byte, flat-number, list-kept, written-same}
+use Rattle.reference.proofs.Sound.{Sound, Same, Simulated, as-told, count-same}
+
+-- the window list, worked out from the lent parts
+list-afresh : (b : Reference) → Sound b → windowList (partsOf b .header) (partsOf b .records) (partsOf b .registers) ≡ windowsOf b
+unfolding partsOf
+list-afresh b s = list-kept (b .records) (s .sized) (b .registers) (s .few)
+
+-- what a write of w registers leaves of a board's lent parts
+abbrev pub left : Reference → ℕ → ℕ → ℕ → Target → Wrote
+left b w register value t =
+    let p = partsOf b in writeTo (p .header) (p .records) (p .registers) (p .windows) w register value t
+
+module _ (b : Reference) (s : Sound b) where
+  -- a search, whatever it looks for in a function's registers
+  same-search : (m : (ℕ → ℕ) → Bool) → ((f g : ℕ → ℕ) → ((at : ℕ) → at < registersEach → f at ≡ g at) → m f ≡ m g)
+      → (index : ℕ) (own : List ℕ)
+      → Same
+      (next (ofSearch (foundNumber (searched (matching (λ i. m (registerByte (flat (b .registers)) i)) 0 (length (b .records))) index))) (partsOf b) own)
+      (told (ofSearch (searchNumber (matching (λ i. m (b .registers i)) 0 (length (b .records))) index)) b own)
+  same-search m depends index own =
+      rw (
+        matching-same (λ i. m (registerByte (flat (b .registers)) i)) (λ i. m (b .registers i)) 0 (length (b .records))
+            (λ i h. depends (registerByte (flat (b .registers)) i) (b .registers i) (λ at l. flat-byte (b .registers) i at (omega (arith, s .few)) l)),
+        search-number,
+      )
+      (as-told b s)
+
+  pub same-device : (id index : ℕ) (own : List ℕ) → Simulated b (FindPciDevice id index) own
+  unfolding step referenceStep partsOf
+  same-device id index own = rw (count-same b s) (same-search (deviceMatches id) (device-same id) index own)
+
+  pub same-class : (class index : ℕ) (own : List ℕ) → Simulated b (FindPciClasscode class index) own
+  unfolding step referenceStep partsOf
+  same-class class index own = rw (count-same b s) (same-search (classMatches class) (class-same class) index own)
+
+  target-same : (w handle register : ℕ) → target (isHandle (partsOf b .header) handle) w handle register ≡ targetOf b w handle register
+  unfolding partsOf
+  target-same w handle register = rw (count-same b s)
+
+  -- a read and a fast read of the same registers
+  abbrev Reads : ℕ → ℕ → Target → Type 0
+  Reads w register t =
+      (readOf (registerByte (flat (b .registers))) w register t ≡ readOf (b .registers) w register t)
+      × (fastReadOf (registerByte (flat (b .registers))) w register t ≡ fastReadOf (b .registers) w register t)
+
+  reads : (w handle register : ℕ) → Reads w register (targetOf b w handle register)
+  reads w handle register =
+      ifTarget (Reads w register) (length (b .records)) w handle register
+      (λ i h e k. let n = flat-number (b .registers) w i register (omega (arith, s .few)) k in (rw n, rw n)) (refl, refl) (refl, refl)
+
+  pub same-read : (width : Width) (handle register : ℕ) (own : List ℕ) → Simulated b (ReadConfig width handle register) own
+  unfolding step referenceStep partsOf
+  same-read width handle register own = rw (target-same _ handle register, reads _ handle register .0) (as-told b s)
+
+  pub same-fast-read : (width : Width) (handle register : ℕ) (own : List ℕ) → Simulated b (FastReadConfig width handle register) own
+  unfolding step referenceStep partsOf
+  same-fast-read width handle register own = rw (target-same _ handle register, reads _ handle register .1) (as-told b s)
+
+  -- the list that a write leaves is that of the registers that it leaves
+  pub follows : (w handle register value : ℕ)
+      → (let o = left b w register value (targetOf b w handle register) in
+      o .windows ≡ keptList (windowList (partsOf b .header) (partsOf b .records) (o .registers)))
+  unfolding partsOf
+  follows w handle register value =
+      let p = partsOf b in
+      rw (target-same w handle register)
+      at (list-follows w (p .header) (p .records) (p .registers) (p .windows) handle register value (ap keptList (sym (list-afresh b s))))
+
+  -- a write, its list worked out anew
+  abbrev Writes : ℕ → ℕ → ℕ → List ℕ → Target → Type 0
+  Writes w register value own t =
+      let p = partsOf b in
+      let o = left b w register value t in
+      Same
+      (next (ofStatus (o .status)) (withRegisters (o .registers) (keptList (windowList (p .header) (p .records) (o .registers))) p) own)
+      (writeOf b w register value own t)
+
+  pub writes : (w handle register value : ℕ) (own : List ℕ) → Writes w register value own (targetOf b w handle register)
+  unfolding partsOf
+  writes w handle register value own =
+      ifTarget (Writes w register value own) (length (b .records)) w handle register
+      (λ i h e k.
+      let c = withRegistersOf (registersAfter b w i register value) b in
+      let d : Sound c = record { few = s .few; sized = s .sized; fits = s .fits } in
+      rw (written-same b (s .sized) w i register value (omega (arith, s .few)) k, list-afresh c d) (as-told c d))
+      (rw (list-afresh b s) (as-told b s)) (rw (list-afresh b s) (as-told b s))
+
+  pub same-write-config : (width : Width) (handle register value : ℕ) (own : List ℕ)
+      → Simulated b (WriteConfig width handle register value) own
+  unfolding step referenceStep
+  same-write-config width handle register value own =
+      rw (target-same _ handle register, follows _ handle register value) (writes _ handle register value own)

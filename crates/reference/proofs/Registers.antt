@@ -1,0 +1,77 @@
+-- Registers, record bytes and the window list, read from the lent parts, are the reference machine's.
+use Prim.Native.Nat.{ℕ, _+_, _*_, _-_, _/_, _%_, _<_, _≤_}
+use native.Mathlib.Omega.{arith}
+use native.Mathlib.Nat.{min-eq-left}
+use mathlib.Core.Logic.{⊎-elim}
+use mathlib.Core.Path.{_≡_, sym, _∙_, ap}
+use mathlib.Core.List.{List, [], _∷_}
+use lib.ListN.{length}
+use lib.Seq.{ext-getD}
+use Rattle.board.specs.Numbers.{byteAt, little}
+use Rattle.board.specs.Tables.{table}
+use Rattle.board.specs.Layout.{functionsMax, bases, recordSize, masksAt, entriesAt, entrySize, registersEach, recordByte, exponent, registerByte}
+use Rattle.board.proofs.Numbers.{little-same}
+use Rattle.board.proofs.Tables.{table-length, table-get}
+use Rattle.window_list.specs.Windows.{listOf, windowList}
+use Rattle.window_list.proofs.Meaning.{list-same}
+use Rattle.config.specs.Write.{bytesWritten}
+use Rattle.config.proofs.Written.{masked-write}
+use Rattle.image.specs.Load.{padded}
+use Rattle.image.proofs.Lists.{zeros-after}
+use Rattle.reference.specs.Reference.{Reference, recordOf, exponentOf, joined, registersAfter}
+use Rattle.reference.proofs.Records.{Sized, joined-byte}
+
+-- registers by function and number, one function's after another's
+abbrev pub flat : (ℕ → ℕ → ℕ) → List ℕ
+flat r = table (functionsMax * registersEach) (λ j. r (j / registersEach) (j % registersEach))
+
+pub flat-byte : (r : ℕ → ℕ → ℕ) (i at : ℕ) → i < functionsMax → at < registersEach → registerByte (flat r) i at ≡ r i at
+flat-byte r i at h a =
+    let n = registersEach * i + at in
+    let q : (0 + n) / registersEach ≡ i = omega arith in
+    let m : (0 + n) % registersEach ≡ at = omega arith in
+    table-get 0 (functionsMax * registersEach) (λ j. r (j / registersEach) (j % registersEach)) n (omega arith) ∙ rw (q, m)
+
+-- a list with those bytes is that table
+flat-is : (r : ℕ → ℕ → ℕ) (l : List ℕ) → length l ≡ functionsMax * registersEach
+    → ((i at : ℕ) → i < functionsMax → at < registersEach → registerByte l i at ≡ r i at) → l ≡ flat r
+flat-is r l e same =
+    ext-getD 0 l (flat r) (e ∙ sym (table-length 0 (functionsMax * registersEach) _)) (λ j h.
+    let i : j / registersEach < functionsMax = omega (arith, e) in
+    let m : registersEach * (j / registersEach) + j % registersEach ≡ j = omega arith in
+    rw m at (same (j / registersEach) (j % registersEach) i (omega arith) ∙ sym (flat-byte r (j / registersEach) (j % registersEach) i (omega arith))))
+
+-- a number of w registers of a function
+pub flat-number : (r : ℕ → ℕ → ℕ) (w i register : ℕ) → i < functionsMax → register + w ≤ registersEach
+    → little w (registerByte (flat r) i) register ≡ little w (r i) register
+flat-number r w i register h k =
+    little-same w (registerByte (flat r) i) (r i) register register (λ d l. ap (λ b. b % 256) (flat-byte r i (register + d) h (omega arith)))
+
+module _ (rs : List (List ℕ)) (s : Sized rs) where
+  -- a byte of the records array
+  pub kept-byte : (i at : ℕ) → at < recordSize → recordByte (padded (joined rs)) i at ≡ byteAt (recordOf rs i) at
+  kept-byte i at h =
+      zeros-after (joined rs) (functionsMax * recordSize - length (joined rs)) (recordSize * i + at) ∙ joined-byte rs s i at h
+
+  pub kept-exponent : (i b : ℕ) → b < bases → exponent (padded (joined rs)) i b ≡ exponentOf rs i b
+  kept-exponent i b h =
+      let e : entriesAt + entrySize * b + 0 ≡ entriesAt + entrySize * b = omega arith in
+      rw e (kept-byte i (entriesAt + entrySize * b) (omega arith))
+
+  pub list-kept : (r : ℕ → ℕ → ℕ) → length rs ≤ functionsMax
+      → windowList (length rs ∷ 0 ∷ 0 ∷ 0 ∷ []) (padded (joined rs)) (flat r) ≡ listOf (length rs) (exponentOf rs) r
+  list-kept r h =
+      rw (min-eq-left h)
+      (list-same (length rs) (exponent (padded (joined rs))) (exponentOf rs) (registerByte (flat r)) r
+      (λ i b l m. kept-exponent i b m)
+      (λ i at l w. flat-byte r i at (omega arith) (⊎-elim (λ e. omega arith) (λ e. omega (arith, e .1)) w)))
+
+-- what a write through the masks leaves
+pub written-same : (b : Reference) → Sized (b .records) → (w i register value : ℕ) → i < functionsMax → register + w ≤ registersEach
+    → bytesWritten w (padded (joined (b .records))) i register value (flat (b .registers)) ≡ flat (registersAfter b w i register value)
+written-same b s w i register value h k =
+    let size = table-length 0 (functionsMax * registersEach) (λ j. b .registers (j / registersEach) (j % registersEach)) in
+    let t = masked-write w (padded (joined (b .records))) i register value (flat (b .registers)) k (omega (arith, size)) in
+    flat-is (registersAfter b w i register value) _ (t .room ∙ size) (λ j at l m.
+    t .byte j at m
+    ∙ rw (kept-byte (b .records) s i (masksAt + at) (omega arith), flat-byte (b .registers) i at h m, flat-byte (b .registers) j at l m))

@@ -1,0 +1,37 @@
+-- What every reference state of a run has, and what is proved of each call on its lent parts.
+use Prim.Native.Nat.{ℕ, _≤_, min}
+use native.Mathlib.Nat.{min-eq-left}
+use mathlib.Core.Path.{_≡_, refl}
+use mathlib.Core.List.{List}
+use lib.ListN.{length}
+use Rattle.board.specs.Layout.{functionsMax}
+use Rattle.image.specs.Cells.{total}
+use Rattle.reference.specs.declared.Answer.{Answer}
+use Rattle.reference.specs.declared.Call.{Call}
+use Rattle.reference.specs.State.{Next, next, step}
+use Rattle.reference.specs.Reference.{Reference, Told, told, exponentOf, referenceStep}
+use Rattle.reference.specs.Run.{partsOf}
+use Rattle.reference.proofs.Records.{Sized}
+
+pub record Sound (b : Reference) : Type 0 where
+  pub few : length (b .records) ≤ functionsMax
+  pub sized : Sized (b .records)
+  pub fits : total (exponentOf (b .records)) ≤ length (b .cells)
+
+pub record Same (n : Next) (t : Told) : Type 0 where
+  pub answer : n .answer ≡ t .answer
+  pub parts : n .parts ≡ partsOf (t .reference)
+  pub own : n .own ≡ t .own
+  pub sound : Sound (t .reference)
+
+-- the program's step on the parts of a reference state is the reference machine's step
+abbrev pub Simulated : Reference → Call → List ℕ → Type 0
+Simulated b c own = Same (step (partsOf b) c own) (referenceStep b c own)
+
+module _ (b : Reference) (s : Sound b) where
+  -- an answer beside the parts of the state itself
+  pub as-told : {a : Answer} {own : List ℕ} → Same (next a (partsOf b) own) (told a b own)
+  as-told = record { answer = refl; parts = refl; own = refl; sound = s }
+
+  pub count-same : min (length (b .records)) functionsMax ≡ length (b .records)
+  count-same = min-eq-left (s .few)

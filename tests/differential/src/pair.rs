@@ -1,0 +1,54 @@
+//! Both implementations on equal parts: each call is performed in both, and all that it
+//! leaves is compared.
+
+use crate::calls::{Answer, Call};
+use crate::model::Second;
+use crate::parts::{first_difference, Parts};
+use crate::proved::Proved;
+use crate::tally::Tally;
+
+pub struct Pair {
+    proved: Proved,
+    second: Second,
+}
+
+impl Pair {
+    /// The board before the first load, with a cell buffer of these contents.
+    pub fn new(cells: Vec<u8>) -> Self {
+        let second = Second::new(cells);
+        Pair { proved: Proved::new(&second.parts, &second.cells), second }
+    }
+
+    pub fn parts(&self) -> &Parts {
+        &self.second.parts
+    }
+
+    pub fn cells(&self) -> &[u8] {
+        &self.second.cells
+    }
+
+    /// Performs a call and counts what it met; the answer is the one that both gave.
+    pub fn call(&mut self, call: &Call, tally: &mut Tally) -> Result<Answer, String> {
+        let before = self.second.parts.clone();
+        let expected = self.second.perform(call);
+        tally.count(call, &expected, &before, &self.second.parts);
+        let answer = self.proved.perform(call)?;
+        let difference = answer
+            .first_difference(&expected)
+            .or_else(|| self.proved.parts().first_difference(&self.second.parts))
+            .or_else(|| first_difference("cells", self.proved.cells(), &self.second.cells));
+        difference.map_or(Ok(answer), Err)
+    }
+
+    /// Gives the parts of both other contents, as a caller may.
+    pub fn change_parts(&mut self, change: impl FnOnce(&mut Parts)) {
+        change(&mut self.second.parts);
+        self.proved.lend(&self.second.parts);
+    }
+
+    /// Gives the cell buffer of both other contents, as a caller may.
+    pub fn change_cells(&mut self, change: impl FnOnce(&mut [u8])) {
+        change(&mut self.second.cells);
+        self.proved.lend_cells(&self.second.cells);
+    }
+}
