@@ -22,7 +22,7 @@ aligned-fits w register h = by (eqb (register % w) 0) refl
     by false e = refl
 
 -- an access is accepted for the function of its handle, where the handle is good and the access fits
-pub target-accepts : (good : Bool) (w handle register i : ℕ) → target good w handle register ≡ Function i
+target-accepts : (good : Bool) (w handle register i : ℕ) → target good w handle register ≡ Function i
     → (good ≡ true) × ((i ≡ handle - 1) × (fits w register ≡ true))
 unfolding target
 target-accepts good w handle register i = by good (fits w register)

@@ -112,8 +112,15 @@ module _ (b : Reference) (s : Sound b) where
       rw (written-same b (s .sized) w i register value (omega (arith, s .few)) k, list-afresh c d) (as-told c d))
       (rw (list-afresh b s) (as-told b s)) (rw (list-afresh b s) (as-told b s))
 
+  -- and with any list that is the one worked out anew
+  writes-list : (w handle register value : ℕ) (own l : List ℕ)
+      → (let o = left b w register value (targetOf b w handle register) in
+      l ≡ keptList (windowList (partsOf b .header) (partsOf b .records) (o .registers))
+      → Same (next (ofStatus (o .status)) (withRegisters (o .registers) l (partsOf b)) own) (writeOf b w register value own (targetOf b w handle register)))
+  writes-list w handle register value own l e = rw e (writes w handle register value own)
+
   pub same-write-config : (width : Width) (handle register value : ℕ) (own : List ℕ)
       → Simulated b (WriteConfig width handle register value) own
   unfolding step referenceStep
   same-write-config width handle register value own =
-      rw (target-same _ handle register, follows _ handle register value) (writes _ handle register value own)
+      rw (target-same _ handle register) (writes-list _ handle register value own _ (cc (follows _ handle register value)))

@@ -7,7 +7,6 @@ use lib.ListN.{replicate, set}
 use Rattle.board.specs.Layout.{recordSize}
 use Rattle.board.specs.Statuses.{successful, deviceNotFound}
 use Rattle.board.specs.declared.number.Width.the-variants.{Byte, Long}
-use Rattle.board.specs.declared.status.Status.{Status}
 use Rattle.reference.specs.declared.Answer.{Answer}
 use Rattle.reference.specs.declared.Call.{Call}
 use Rattle.reference.specs.declared.Call.the-variants.{Load, FindPciDevice, FindPciClasscode, ReadConfig, WriteConfig, ListWindow}
@@ -54,12 +53,9 @@ pub record Case : Type 0 where
 abbrev pub case : List Call → List Answer → Case
 case calls answers = record { calls = calls; answers = answers }
 
--- a handle found; a number alone; a number and a value; a window listed
+-- a handle found; a number and a value; a window listed
 abbrev pub found : ℕ → Answer
 found handle = ofSearch (pos handle)
-
-abbrev pub status : Status → Answer
-status s = ofStatus s
 
 abbrev pub value : ℕ → Answer
 value v = answer (successful .0) (one v)
@@ -70,7 +66,7 @@ listed space start length handle base contested = answer (successful .0) (space 
 -- the three windows of B1, with the start of handle 2's memory window and the mark of both
 abbrev pub list : ℕ → ℕ → List Answer
 list start contested =
-    listed 0 0x80000000 0x400 1 0 contested ∷ listed 0 start 0x400 2 0 contested ∷ listed 1 0x100 0x10 2 1 0 ∷ status deviceNotFound ∷ []
+    listed 0 0x80000000 0x400 1 0 contested ∷ listed 0 start 0x400 2 0 contested ∷ listed 1 0x100 0x10 2 1 0 ∷ ofStatus deviceNotFound ∷ []
 
 abbrev pub listing : List Call
 listing = ListWindow 0 ∷ ListWindow 1 ∷ ListWindow 2 ∷ ListWindow 3 ∷ []
@@ -83,7 +79,7 @@ abbrev pub p1 : Case
 p1 = case (FindPciDevice 0x00010F0F 1 ∷ []) (found 2 ∷ [])
 
 abbrev pub p2 : Case
-p2 = case (FindPciDevice 0x00010F0F 2 ∷ []) (status deviceNotFound ∷ [])
+p2 = case (FindPciDevice 0x00010F0F 2 ∷ []) (ofStatus deviceNotFound ∷ [])
 
 abbrev pub p3 : Case
 p3 = case (FindPciDevice 0x0000FFFF 0 ∷ []) (found 1 ∷ [])
@@ -92,21 +88,21 @@ abbrev pub p4 : Case
 p4 = case (FindPciClasscode 0x01118055 0 ∷ []) (found 1 ∷ [])
 
 abbrev pub p5 : Case
-p5 = case (FindPciClasscode 0x00118055 0 ∷ []) (status deviceNotFound ∷ [])
+p5 = case (FindPciClasscode 0x00118055 0 ∷ []) (ofStatus deviceNotFound ∷ [])
 
 abbrev pub p6 : Case
-p6 = case (WriteConfig Long 1 0x10 0xFFFFFFFF ∷ ReadConfig Long 1 0x10 ∷ []) (status successful ∷ value 0xFFFFFC00 ∷ [])
+p6 = case (WriteConfig Long 1 0x10 0xFFFFFFFF ∷ ReadConfig Long 1 0x10 ∷ []) (ofStatus successful ∷ value 0xFFFFFC00 ∷ [])
 
 abbrev pub p7 : Case
-p7 = case (WriteConfig Byte 1 0x11 0x12 ∷ ReadConfig Long 1 0x10 ∷ []) (status successful ∷ value 0x80001000 ∷ [])
+p7 = case (WriteConfig Byte 1 0x11 0x12 ∷ ReadConfig Long 1 0x10 ∷ []) (ofStatus successful ∷ value 0x80001000 ∷ [])
 
 abbrev pub p8 : Case
-p8 = case (WriteConfig Long 2 0x14 0xFFFFFFFF ∷ ReadConfig Long 2 0x14 ∷ []) (status successful ∷ value 0xFFFFFFF1 ∷ [])
+p8 = case (WriteConfig Long 2 0x14 0xFFFFFFFF ∷ ReadConfig Long 2 0x14 ∷ []) (ofStatus successful ∷ value 0xFFFFFFF1 ∷ [])
 
 abbrev pub p11 : Case
 p11 =
     case (WriteConfig Long 2 0x10 0x80000000 ∷ listing ++ WriteConfig Long 2 0x10 0x80000400 ∷ listing)
-    (status successful ∷ list 0x80000000 1 ++ status successful ∷ list 0x80000400 0)
+    (ofStatus successful ∷ list 0x80000000 1 ++ ofStatus successful ∷ list 0x80000400 0)
 
 abbrev pub table : List Case
 table = b1List ∷ p1 ∷ p2 ∷ p3 ∷ p4 ∷ p5 ∷ p6 ∷ p7 ∷ p8 ∷ p11 ∷ []

@@ -1,7 +1,7 @@
 -- `place_cells`: the offsets of the first s slots stand, and t is where the next one begins.
 use Prim.Native.Nat.{_-_}
 use mathlib.Core.Path.{sym, _∙_}
-use lib.ListN.{length, length-set}
+use lib.ListN.{length-set}
 use Rattle.board.specs.Layout.{windowsMax, exponent}
 use Rattle.image.proofs.Lists.{Placed, placed-none, placed-more, placed-all}
 use native.Mathlib.Omega.{arith}
