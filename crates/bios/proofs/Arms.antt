@@ -16,8 +16,8 @@ use Rattle.window_list.specs.declared.listing.Listing.{Listing}
 use Rattle.config.specs.Read.{readConfig, fastReadConfig}
 use Rattle.config.specs.Search.{devices, classes, searched, foundNumber, Finds}
 use Rattle.config.specs.Write.{wrote, writeConfig}
-use Rattle.config.specs.declared.read.ConfigRead.{ConfigRead}
-use Rattle.config.specs.declared.read.FastConfigRead.{FastConfigRead}
+use Rattle.board.specs.declared.read.Read.{Read}
+use Rattle.board.specs.declared.read.FastRead.{FastRead}
 use Rattle.config.specs.declared.search.Search.{Search}
 use Rattle.image.specs.Load.{loaded, load, resetTo, reset}
 use Rattle.image.specs.Write.{written, write}
@@ -59,12 +59,12 @@ pub class-step : (p : Parts) (own : List ℕ) (c : Call) (class n : ℕ) → c �
 unfolding step
 class-step p own c class n e = rw e
 
-pub arm-read : (p : Parts) (own : List ℕ) (c : Call) (w : Width) (h register : ℕ) (v : ConfigRead) (r : Answer) → c ≡ ReadConfig w h register
+pub arm-read : (p : Parts) (own : List ℕ) (c : Call) (w : Width) (h register : ℕ) (v : Read) (r : Answer) → c ≡ ReadConfig w h register
     → r ≡ ofRead v → v ≡ readConfig (bytes w) (p .header) (p .registers) h register → next r p own ≡ step p c own
 unfolding step
 arm-read p own c w h register v r e a k = rw (e, a, k)
 
-pub arm-fast-read : (p : Parts) (own : List ℕ) (c : Call) (w : Width) (h register : ℕ) (v : FastConfigRead) (r : Answer)
+pub arm-fast-read : (p : Parts) (own : List ℕ) (c : Call) (w : Width) (h register : ℕ) (v : FastRead) (r : Answer)
     → c ≡ FastReadConfig w h register → r ≡ ofFastRead v → v ≡ fastReadConfig (bytes w) (p .header) (p .registers) h register
     → next r p own ≡ step p c own
 unfolding step

@@ -12,8 +12,8 @@ use Rattle.window_list.specs.Windows.{Window}
 use Rattle.window_list.specs.Listing.{listedNumber, listedValues}
 use Rattle.config.specs.Read.{readConfig, fastReadConfig}
 use Rattle.config.specs.Write.{Wrote, wrote, writeConfig}
-use Rattle.config.specs.declared.read.ConfigRead.{ConfigRead}
-use Rattle.config.specs.declared.read.FastConfigRead.{FastConfigRead}
+use Rattle.board.specs.declared.read.Read.{Read}
+use Rattle.board.specs.declared.read.FastRead.{FastRead}
 use Rattle.config.specs.declared.search.Search.{Search}
 use Rattle.config.specs.declared.search.Search.the-variants.{Found, Refused}
 use Rattle.image.specs.declared.check.Verdict.{Verdict}
@@ -47,14 +47,14 @@ handleFound (Refused status) = 0
 abbrev pub widthOf : ℕ → AskedWidth
 widthOf w = cond (eqb w 1) (Known Byte) (cond (eqb w 2) (Known Word) (cond (eqb w 4) (Known Long) Other))
 
-abbrev pub readNumbers : ℤ → ℕ → ConfigRead
+abbrev pub readNumbers : ℤ → ℕ → Read
 readNumbers number value = record { status = status number; value = value }
 
-abbrev pub askedRead : AskedWidth → List ℕ → List ℕ → ℕ → ℕ → ConfigRead
+abbrev pub askedRead : AskedWidth → List ℕ → List ℕ → ℕ → ℕ → Read
 askedRead (Known width) header registers handle register = readConfig (bytes width) header registers handle register
 askedRead Other header registers handle register = record { status = generalError; value = 0 }
 
-abbrev pub askedFastRead : AskedWidth → List ℕ → List ℕ → ℕ → ℕ → FastConfigRead
+abbrev pub askedFastRead : AskedWidth → List ℕ → List ℕ → ℕ → ℕ → FastRead
 askedFastRead (Known width) header registers handle register = fastReadConfig (bytes width) header registers handle register
 askedFastRead Other header registers handle register = record { value = 0xFFFFFFFF; fault = true }
 
@@ -71,5 +71,5 @@ pub record Fast : Type 0 where
 abbrev pub fastNumbers : ℕ → ℕ → Fast
 fastNumbers value fault = record { value = value; fault = fault }
 
-abbrev pub fastShown : FastConfigRead → Fast
+abbrev pub fastShown : FastRead → Fast
 fastShown r = fastNumbers (r .value) (cond (r .fault) 1 0)

@@ -1,7 +1,7 @@
 // The answer of each kind of outcome.
+use board::read::FastRead;
+use board::read::Read;
 use board::status::Status;
-use config::read::ConfigRead;
-use config::read::FastConfigRead;
 use config::search::Search;
 use reference::Answer;
 use reference::Values;
@@ -47,14 +47,14 @@ pub(crate) fn of_status(status: Status) -> Answer
 }
 
 // The answer of a read.
-pub(crate) fn of_read(read: ConfigRead) -> Answer
+pub(crate) fn of_read(read: Read) -> Answer
     ensures { λ r. ⌜ r ≡ ofRead read ⌝ }
 {
     of_value(read.status, read.value)
 }
 
 // The answer of a fast read, which has no number.
-pub(crate) fn of_fast_read(read: FastConfigRead) -> Answer
+pub(crate) fn of_fast_read(read: FastRead) -> Answer
     ensures { λ r. ⌜ r ≡ ofFastRead read ⌝ }
 {
     Answer {

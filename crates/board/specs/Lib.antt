@@ -6,3 +6,4 @@ pub mod Numbers
 pub mod Layout
 pub mod Handles
 pub mod Parts
+pub mod Reads

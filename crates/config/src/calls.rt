@@ -1,6 +1,4 @@
 // The calls by the names of the BIOS text, one for each width, over one body each.
-use crate::read::ConfigRead;
-use crate::read::FastConfigRead;
 use crate::read::fast_read_config;
 use crate::read::read_config;
 use crate::write::write_config;
@@ -9,28 +7,20 @@ use board::layout::Records;
 use board::layout::Registers;
 use board::layout::Windows;
 use board::number::Width;
+use board::read::FastRead;
+use board::read::Read;
 use board::status::Status;
 ghost use mathlib.Core.Path.{_≡_};
 ghost use Rattle.config.specs.Read.{readConfig, fastReadConfig};
 ghost use Rattle.config.specs.Write.{wrote, writeConfig};
 
-pub fn read_config_byte(
-    header: &Header,
-    registers: &Registers,
-    handle: u32,
-    register: u8,
-) -> ConfigRead
+pub fn read_config_byte(header: &Header, registers: &Registers, handle: u32, register: u8) -> Read
     ensures { λ r. ⌜ r ≡ readConfig 1 (now (header .entry)) (now (registers .entry)) handle register ⌝ }
 {
     read_config(header, registers, Width::Byte, handle, register)
 }
 
-pub fn read_config_word(
-    header: &Header,
-    registers: &Registers,
-    handle: u32,
-    register: u8,
-) -> ConfigRead
+pub fn read_config_word(header: &Header, registers: &Registers, handle: u32, register: u8) -> Read
     ensures { λ r. ⌜ r ≡ readConfig 2 (now (header .entry)) (now (registers .entry)) handle register ⌝ }
 {
     read_config(header, registers, Width::Word, handle, register)
@@ -41,7 +31,7 @@ pub fn read_config_longword(
     registers: &Registers,
     handle: u32,
     register: u8,
-) -> ConfigRead
+) -> Read
     ensures { λ r. ⌜ r ≡ readConfig 4 (now (header .entry)) (now (registers .entry)) handle register ⌝ }
 {
     read_config(header, registers, Width::Long, handle, register)
@@ -52,7 +42,7 @@ pub fn fast_read_config_byte(
     registers: &Registers,
     handle: u32,
     register: u8,
-) -> FastConfigRead
+) -> FastRead
     ensures { λ r. ⌜ r ≡ fastReadConfig 1 (now (header .entry)) (now (registers .entry)) handle register ⌝ }
 {
     fast_read_config(header, registers, Width::Byte, handle, register)
@@ -63,7 +53,7 @@ pub fn fast_read_config_word(
     registers: &Registers,
     handle: u32,
     register: u8,
-) -> FastConfigRead
+) -> FastRead
     ensures { λ r. ⌜ r ≡ fastReadConfig 2 (now (header .entry)) (now (registers .entry)) handle register ⌝ }
 {
     fast_read_config(header, registers, Width::Word, handle, register)
@@ -74,7 +64,7 @@ pub fn fast_read_config_longword(
     registers: &Registers,
     handle: u32,
     register: u8,
-) -> FastConfigRead
+) -> FastRead
     ensures { λ r. ⌜ r ≡ fastReadConfig 4 (now (header .entry)) (now (registers .entry)) handle register ⌝ }
 {
     fast_read_config(header, registers, Width::Long, handle, register)

@@ -5,23 +5,13 @@ use board::layout::Header;
 use board::layout::Registers;
 use board::layout::register_number;
 use board::number::Width;
+use board::read::FastRead;
+use board::read::Read;
+use board::read::refused_fast;
 use board::status::Status;
 ghost use mathlib.Core.Path.{_≡_};
-ghost use Prim.Native.Nat.{_-_, _^_};
 ghost use Rattle.board.specs.Numbers.{bytes};
 ghost use Rattle.config.specs.Read.{readConfig, fastReadConfig};
-
-// What a read hands back; the value of a refused one is 0.
-pub struct ConfigRead {
-    pub status: Status,
-    pub value: u32,
-}
-
-// What a fast read hands back; the value of a refused one is all ones of its width.
-pub struct FastConfigRead {
-    pub value: u32,
-    pub fault: bool,
-}
 
 // Reads a number of a width, least byte first.
 pub fn read_config(
@@ -30,29 +20,18 @@ pub fn read_config(
     width: Width,
     handle: u32,
     register: u8,
-) -> ConfigRead
+) -> Read
     ensures { λ r. ⌜ r ≡ readConfig (bytes width) (now (header .entry)) (now (registers .entry)) handle register ⌝ }
 {
     match target_of(header, width, handle, register) {
-        Target::Function(function) => ConfigRead {
+        Target::Function(function) => Read {
             status: Status::SUCCESSFUL,
             value: register_number(registers, function, register, width),
         },
-        Target::Refused(status) => ConfigRead {
+        Target::Refused(status) => Read {
             status: status,
             value: 0,
         },
-    }
-}
-
-// The largest number of a width.
-fn all_ones(width: Width) -> u32
-    ensures { λ r. ⌜ r ≡ 256 ^ bytes width - 1 ⌝ }
-{
-    match width {
-        Width::Byte => 0xFF,
-        Width::Word => 0xFFFF,
-        Width::Long => 0xFFFFFFFF,
     }
 }
 
@@ -63,17 +42,14 @@ pub fn fast_read_config(
     width: Width,
     handle: u32,
     register: u8,
-) -> FastConfigRead
+) -> FastRead
     ensures { λ r. ⌜ r ≡ fastReadConfig (bytes width) (now (header .entry)) (now (registers .entry)) handle register ⌝ }
 {
     match target_of(header, width, handle, register) {
-        Target::Function(function) => FastConfigRead {
+        Target::Function(function) => FastRead {
             value: register_number(registers, function, register, width),
             fault: false,
         },
-        Target::Refused(_) => FastConfigRead {
-            value: all_ones(width),
-            fault: true,
-        },
+        Target::Refused(_) => refused_fast(width),
     }
 }

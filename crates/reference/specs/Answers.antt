@@ -5,8 +5,8 @@ use mathlib.Core.List.{List, _∷_}
 use lib.IntN.{ℤ, pos, negsuc}
 use lib.ListN.{replicate}
 use Rattle.board.specs.declared.status.Status.{Status}
-use Rattle.config.specs.declared.read.ConfigRead.{ConfigRead}
-use Rattle.config.specs.declared.read.FastConfigRead.{FastConfigRead}
+use Rattle.board.specs.declared.read.Read.{Read}
+use Rattle.board.specs.declared.read.FastRead.{FastRead}
 use Rattle.image.specs.declared.check.Verdict.{Verdict}
 use Rattle.reference.specs.declared.Answer.{Answer}
 
@@ -43,9 +43,9 @@ abbrev pub ofSearch : ℤ → Answer
 ofSearch number = record { number = number; refused = below number; values = zeros }
 
 -- a read's number and value
-abbrev pub ofRead : ConfigRead → Answer
+abbrev pub ofRead : Read → Answer
 ofRead r = answer (r .status .0) (one (r .value))
 
 -- a fast read hands back its value and the fault flag, and no number
-abbrev pub ofFastRead : FastConfigRead → Answer
+abbrev pub ofFastRead : FastRead → Answer
 ofFastRead r = record { number = pos 0; refused = r .fault; values = one (r .value) }

@@ -16,15 +16,15 @@ register-number-requires c κs = search needs
 enum-told : tie.Need-enum-told
 enum-told c = search needs
 
-all-ones-requires : tie.Need-all-ones-requires
-all-ones-requires c κs = search needs
+refused-fast-requires : tie.Need-refused-fast-requires
+refused-fast-requires c κs = search needs
 
 returns : tie.Need-returns
 returns c =
     rw (sym (c .before .before .before .before .target-of .ensures) ∙ c .before .before .function .given .1, ← c .register-number .ensures)
 
 returns-2 : tie.Need-returns-2
-returns-2 c = rw (sym (c .before .before .before .target-of .ensures) ∙ c .before .enum-told .given .1, ← c .all-ones .ensures)
+returns-2 c = rw (c .refused-fast .ensures, sym (c .before .before .before .target-of .ensures) ∙ c .before .enum-told .given .1)
 
 pub fast-read-config-spec : {M : Type 1} → statement M
 fast-read-config-spec =
@@ -34,6 +34,6 @@ fast-read-config-spec =
     enum-known-function
     register-number-requires
     enum-told
-    all-ones-requires
+    refused-fast-requires
     returns
     returns-2)

@@ -1,7 +1,7 @@
--- `all_ones`: the number for each width.
+-- `refused_fast`: the number for each width.
 use borrow.Author.Needs.{needs}
-use Rattle.config.proofs.read.all_ones.Statement.{statement}
-use Rattle.config.proofs.read.all_ones.Tie as tie
+use Rattle.board.proofs.read.refused_fast.Statement.{statement}
+use Rattle.board.proofs.read.refused_fast.Tie as tie
 
 enum-told : tie.Need-enum-told
 enum-told c = search needs
@@ -21,5 +21,6 @@ returns-2 c = rw (c .enum-told2 .given .1)
 returns-3 : tie.Need-returns-3
 returns-3 c = rw (c .enum-told3 .given .1)
 
-pub all-ones-spec : {M : Type 1} → statement M
-all-ones-spec = tie.close (tie.spec enum-told enum-told-2 enum-told-3 returns returns-2 returns-3)
+pub refused-fast-spec : {M : Type 1} → statement M
+refused-fast-spec =
+    tie.close (tie.spec enum-told enum-told-2 enum-told-3 returns returns-2 returns-3)

@@ -1,0 +1,21 @@
+-- What reads hand back: document 01, "Numbers handed back".
+use Prim.Native.Nat.{ℕ, _-_, _^_}
+use mathlib.Core.Bool.{true, false}
+use Rattle.board.specs.Statuses.{successful}
+use Rattle.board.specs.declared.read.Read.{Read}
+use Rattle.board.specs.declared.read.FastRead.{FastRead}
+use Rattle.board.specs.declared.status.Status.{Status}
+
+-- a refused read returns 0
+abbrev pub accepted : ℕ → Read
+accepted v = record { status = successful; value = v }
+
+abbrev pub refused : Status → Read
+refused s = record { status = s; value = 0 }
+
+-- a refused fast read returns all ones of its width and a set fault flag
+abbrev pub acceptedFast : ℕ → FastRead
+acceptedFast v = record { value = v; fault = false }
+
+abbrev pub refusedFast : ℕ → FastRead
+refusedFast w = record { value = 256 ^ w - 1; fault = true }
