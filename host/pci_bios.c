@@ -17,6 +17,19 @@ uint32_t bios_fast_read_config(const uint32_t *header, const uint8_t *registers,
                                uint8_t reg, uint32_t *fault);
 int32_t bios_write_config(const uint32_t *header, const uint8_t *records, uint8_t *registers, uint64_t *windows,
                           uint32_t width, uint32_t handle, uint8_t reg, uint32_t value);
+int32_t bios_read_data(const uint32_t *header, const uint8_t *records, const uint64_t *windows,
+                       const uint32_t *cell_offsets, const uint8_t *cells, size_t cells_length, uint32_t io,
+                       uint32_t width, uint32_t handle, uint32_t address, uint32_t *value);
+uint32_t bios_fast_read_data(const uint32_t *header, const uint8_t *records, const uint64_t *windows,
+                             const uint32_t *cell_offsets, const uint8_t *cells, size_t cells_length, uint32_t io,
+                             uint32_t width, uint32_t handle, uint32_t address, uint32_t *fault);
+int32_t bios_write_data(const uint32_t *header, const uint8_t *records, const uint64_t *windows,
+                        const uint32_t *cell_offsets, uint8_t *cells, size_t cells_length, uint32_t io,
+                        uint32_t width, uint32_t handle, uint32_t address, uint32_t value);
+int32_t bios_bus_to_cpu(const uint32_t *header, const uint8_t *records, uint32_t handle, uint32_t address,
+                        uint32_t *cpu);
+int32_t bios_cpu_to_bus(const uint32_t *header, const uint8_t *records, uint32_t handle, uint32_t address,
+                        uint32_t *bus);
 
 int32_t pci_check_image(const uint8_t *image, size_t length, uint32_t *place) {
     return (int32_t)bios_check_image(image, length, SIZE_MAX, place);
@@ -71,4 +84,33 @@ uint32_t pci_fast_read_config(const struct pci_board *board, unsigned width, uin
 int32_t pci_write_config(struct pci_board *board, unsigned width, uint32_t handle, uint8_t reg, uint32_t value) {
     return bios_write_config(board->header, board->records, board->registers, board->windows, width, handle, reg,
                              value);
+}
+
+int32_t pci_read_data(const struct pci_board *board, const uint8_t *cells, size_t cells_length, int io, unsigned width,
+                      uint32_t handle, uint32_t address, uint32_t *value) {
+    return bios_read_data(board->header, board->records, board->windows, board->cell_offsets, cells, cells_length,
+                          (uint32_t)io, width, handle, address, value);
+}
+
+uint32_t pci_fast_read_data(const struct pci_board *board, const uint8_t *cells, size_t cells_length, int io,
+                            unsigned width, uint32_t handle, uint32_t address, int *fault) {
+    uint32_t flag;
+    uint32_t value = bios_fast_read_data(board->header, board->records, board->windows, board->cell_offsets, cells,
+                                         cells_length, (uint32_t)io, width, handle, address, &flag);
+    *fault = (int)flag;
+    return value;
+}
+
+int32_t pci_write_data(struct pci_board *board, uint8_t *cells, size_t cells_length, int io, unsigned width,
+                       uint32_t handle, uint32_t address, uint32_t value) {
+    return bios_write_data(board->header, board->records, board->windows, board->cell_offsets, cells, cells_length,
+                           (uint32_t)io, width, handle, address, value);
+}
+
+int32_t pci_bus_to_cpu(const struct pci_board *board, uint32_t handle, uint32_t address, uint32_t *cpu) {
+    return bios_bus_to_cpu(board->header, board->records, handle, address, cpu);
+}
+
+int32_t pci_cpu_to_bus(const struct pci_board *board, uint32_t handle, uint32_t address, uint32_t *bus) {
+    return bios_cpu_to_bus(board->header, board->records, handle, address, bus);
 }

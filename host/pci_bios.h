@@ -62,4 +62,28 @@ uint32_t pci_fast_read_config(const struct pci_board *board, unsigned width, uin
    Writes to 04h and 10h-27h open, close and move windows; the list then shows it. */
 int32_t pci_write_config(struct pci_board *board, unsigned width, uint32_t handle, uint8_t reg, uint32_t value);
 
+/* Data calls: a PCI bus address in memory (io 0) or I/O (any other io), the width is 1, 2 or 4 bytes. The cells are the
+   buffer that was lent to the load; the window's byte order says which of them an access means. Their refusals, the
+   first that applies: -8 another width, -9 a bad handle, -7 cells shorter than the board's total, -8 an address that is
+   not a multiple of the width, -8 one that no open window of this very handle holds in that space, -8 a contested
+   window, -2 a width that the window does not offer. */
+
+/* The value at an address: 0, or a refusal and the value 0. */
+int32_t pci_read_data(const struct pci_board *board, const uint8_t *cells, size_t cells_length, int io, unsigned width,
+                      uint32_t handle, uint32_t address, uint32_t *value);
+
+/* The value itself, with fault 0; where the read is refused all ones of its width, with fault 1. Another width than
+   1, 2 or 4 gives FFFFFFFFh. */
+uint32_t pci_fast_read_data(const struct pci_board *board, const uint8_t *cells, size_t cells_length, int io,
+                            unsigned width, uint32_t handle, uint32_t address, int *fault);
+
+/* Writes the low bytes of the value, so that the same read gives them back: 0, or a refusal that changes nothing. Only
+   the cells of its width change. */
+int32_t pci_write_data(struct pci_board *board, uint8_t *cells, size_t cells_length, int io, unsigned width,
+                       uint32_t handle, uint32_t address, uint32_t value);
+
+/* Conversions of any address by the offset of a handle's function, modulo 2^32: 0, or -9 and the address 0. */
+int32_t pci_bus_to_cpu(const struct pci_board *board, uint32_t handle, uint32_t address, uint32_t *cpu);
+int32_t pci_cpu_to_bus(const struct pci_board *board, uint32_t handle, uint32_t address, uint32_t *bus);
+
 #endif

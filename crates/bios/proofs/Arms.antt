@@ -6,7 +6,9 @@ use lib.IntN.{pos}
 use Rattle.board.specs.Handles.{functionCount}
 use Rattle.board.specs.Layout.{registerByte}
 use Rattle.board.specs.Numbers.{bytes}
-use Rattle.board.specs.Parts.{Parts, withRegisters}
+use Rattle.board.specs.Parts.{Parts, withRegisters, withCells}
+use Rattle.board.specs.declared.address.BusAddress.{BusAddress}
+use Rattle.board.specs.declared.address.CpuAddress.{CpuAddress}
 use Rattle.board.specs.declared.number.Width.{Width}
 use Rattle.board.specs.declared.status.Status.{Status}
 use Rattle.window_list.specs.Windows.{Window}
@@ -19,13 +21,19 @@ use Rattle.config.specs.Write.{wrote, writeConfig}
 use Rattle.board.specs.declared.read.Read.{Read}
 use Rattle.board.specs.declared.read.FastRead.{FastRead}
 use Rattle.config.specs.declared.search.Search.{Search}
+use Rattle.access.specs.Convert.{busToCpu, cpuToBus}
+use Rattle.access.specs.Data.{readData, fastReadData, writeData, wrote as dataWrote}
+use Rattle.access.specs.Find.{spaceNumber}
+use Rattle.access.specs.declared.convert.ToBus.{ToBus}
+use Rattle.access.specs.declared.convert.ToCpu.{ToCpu}
+use Rattle.access.specs.declared.find.Space.{Space}
 use Rattle.image.specs.Load.{loaded, load, resetTo, reset}
 use Rattle.image.specs.Write.{written, write}
 use Rattle.image.specs.declared.check.Verdict.{Verdict}
 use Rattle.reference.specs.declared.Answer.{Answer}
 use Rattle.reference.specs.declared.Call.{Call}
-use Rattle.reference.specs.declared.Call.the-variants.{Load, Reset, WriteImage, FindPciDevice, FindPciClasscode, ReadConfig, FastReadConfig, WriteConfig, ListWindow}
-use Rattle.reference.specs.Answers.{answer, one, ofStatus, ofSearch, ofRead, ofFastRead}
+use Rattle.reference.specs.declared.Call.the-variants.{Load, Reset, WriteImage, FindPciDevice, FindPciClasscode, ReadConfig, FastReadConfig, WriteConfig, ReadData, FastReadData, WriteData, BusToCpu, CpuToBus, ListWindow}
+use Rattle.reference.specs.Answers.{answer, one, ofStatus, ofSearch, ofRead, ofFastRead, ofToCpu, ofToBus}
 use Rattle.reference.specs.State.{next, step}
 use Rattle.bios.specs.Exports.{shown, shownWindow}
 
@@ -76,6 +84,37 @@ pub arm-write-config : (p : Parts) (own registers windows : List ℕ) (c : Call)
     → next r (withRegisters registers windows p) own ≡ step p c own
 unfolding step
 arm-write-config p own registers windows c w h register value s r e a k = rw (e, a, ← k)
+
+pub arm-read-data : (p : Parts) (own : List ℕ) (c : Call) (space : Space) (w : Width) (h : ℕ) (address : BusAddress) (v : Read) (r : Answer)
+    → c ≡ ReadData space w h address → r ≡ ofRead v
+    → v ≡ readData (bytes w) (p .header) (p .records) (p .windows) (p .cellOffsets) (p .cells) (spaceNumber space) h (address .0)
+    → next r p own ≡ step p c own
+unfolding step
+arm-read-data p own c space w h address v r e a k = rw (e, a, k)
+
+pub arm-fast-read-data : (p : Parts) (own : List ℕ) (c : Call) (space : Space) (w : Width) (h : ℕ) (address : BusAddress) (v : FastRead) (r : Answer)
+    → c ≡ FastReadData space w h address → r ≡ ofFastRead v
+    → v ≡ fastReadData (bytes w) (p .header) (p .records) (p .windows) (p .cellOffsets) (p .cells) (spaceNumber space) h (address .0)
+    → next r p own ≡ step p c own
+unfolding step
+arm-fast-read-data p own c space w h address v r e a k = rw (e, a, k)
+
+pub arm-write-data : (p : Parts) (own cells : List ℕ) (c : Call) (space : Space) (w : Width) (h : ℕ) (address : BusAddress) (value : ℕ) (s : Status) (r : Answer)
+    → c ≡ WriteData space w h address value → r ≡ ofStatus s
+    → dataWrote s cells ≡ writeData (bytes w) (p .header) (p .records) (p .windows) (p .cellOffsets) (p .cells) (spaceNumber space) h (address .0) value
+    → next r (withCells cells p) own ≡ step p c own
+unfolding step
+arm-write-data p own cells c space w h address value s r e a k = rw (e, a, ← k)
+
+pub arm-bus-to-cpu : (p : Parts) (own : List ℕ) (c : Call) (h : ℕ) (address : BusAddress) (t : ToCpu) (r : Answer) → c ≡ BusToCpu h address
+    → r ≡ ofToCpu t → t ≡ busToCpu (p .header) (p .records) h address → next r p own ≡ step p c own
+unfolding step
+arm-bus-to-cpu p own c h address t r e a k = rw (e, a, k)
+
+pub arm-cpu-to-bus : (p : Parts) (own : List ℕ) (c : Call) (h : ℕ) (address : CpuAddress) (t : ToBus) (r : Answer) → c ≡ CpuToBus h address
+    → r ≡ ofToBus t → t ≡ cpuToBus (p .header) (p .records) h address → next r p own ≡ step p c own
+unfolding step
+arm-cpu-to-bus p own c h address t r e a k = rw (e, a, k)
 
 pub arm-list : (p : Parts) (own : List ℕ) (c : Call) (n : ℕ) (l : Listing) (r : Answer) → c ≡ ListWindow n
     → r ≡ answer (numberOf l) (valuesOf l) → Lists (unpacked (p .windows)) n l → next r p own ≡ step p c own

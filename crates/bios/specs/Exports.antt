@@ -7,6 +7,8 @@ use lib.IntN.{ℤ}
 use Rattle.board.specs.Numbers.{bytes}
 use Rattle.board.specs.Statuses.{generalError}
 use Rattle.board.specs.declared.number.Width.the-variants.{Byte, Word, Long}
+use Rattle.board.specs.declared.address.BusAddress.{BusAddress}
+use Rattle.board.specs.declared.address.CpuAddress.{CpuAddress}
 use Rattle.board.specs.declared.status.Status.{Status}
 use Rattle.window_list.specs.Windows.{Window}
 use Rattle.window_list.specs.Listing.{listedNumber, listedValues}
@@ -16,9 +18,14 @@ use Rattle.board.specs.declared.read.Read.{Read}
 use Rattle.board.specs.declared.read.FastRead.{FastRead}
 use Rattle.config.specs.declared.search.Search.{Search}
 use Rattle.config.specs.declared.search.Search.the-variants.{Found, Refused}
+use Rattle.access.specs.Data.{readData, fastReadData, writeData, Wrote as DataWrote, wrote as dataWrote}
+use Rattle.access.specs.declared.convert.ToBus.{ToBus}
+use Rattle.access.specs.declared.convert.ToCpu.{ToCpu}
+use Rattle.access.specs.declared.find.Space.{Space}
+use Rattle.access.specs.declared.find.Space.the-variants.{Memory, Io}
 use Rattle.image.specs.declared.check.Verdict.{Verdict}
-use Rattle.bios.specs.declared.config_exports.AskedWidth.{AskedWidth}
-use Rattle.bios.specs.declared.config_exports.AskedWidth.the-variants.{Known, Other}
+use Rattle.bios.specs.declared.width.AskedWidth.{AskedWidth}
+use Rattle.bios.specs.declared.width.AskedWidth.the-variants.{Known, Other}
 
 abbrev pub verdict : ℕ → ℕ → Verdict
 verdict number place = record { number = number; place = place }
@@ -73,3 +80,36 @@ fastNumbers value fault = record { value = value; fault = fault }
 
 abbrev pub fastShown : FastRead → Fast
 fastShown r = fastNumbers (r .value) (cond (r .fault) 1 0)
+
+-- a space for C: 0 is memory, every other number I/O
+abbrev pub spaceOf : ℕ → Space
+spaceOf io = cond (eqb io 0) Memory Io
+
+-- data calls of a width for C
+abbrev pub askedData : AskedWidth → List ℕ → List ℕ → List ℕ → List ℕ → List ℕ → ℕ → ℕ → ℕ → Read
+askedData (Known width) header records windows offsets cells space handle address =
+    readData (bytes width) header records windows offsets cells space handle address
+askedData Other header records windows offsets cells space handle address = record { status = generalError; value = 0 }
+
+abbrev pub askedFastData : AskedWidth → List ℕ → List ℕ → List ℕ → List ℕ → List ℕ → ℕ → ℕ → ℕ → FastRead
+askedFastData (Known width) header records windows offsets cells space handle address =
+    fastReadData (bytes width) header records windows offsets cells space handle address
+askedFastData Other header records windows offsets cells space handle address = record { value = 0xFFFFFFFF; fault = true }
+
+abbrev pub askedDataWrite : AskedWidth → List ℕ → List ℕ → List ℕ → List ℕ → List ℕ → ℕ → ℕ → ℕ → ℕ → DataWrote
+askedDataWrite (Known width) header records windows offsets cells space handle address value =
+    writeData (bytes width) header records windows offsets cells space handle address value
+askedDataWrite Other header records windows offsets cells space handle address value = dataWrote generalError cells
+
+-- conversions: a number and an address
+abbrev pub bus : ℕ → BusAddress
+bus a = record { 0 = a }
+
+abbrev pub cpu : ℕ → CpuAddress
+cpu a = record { 0 = a }
+
+abbrev pub toCpu : ℤ → ℕ → ToCpu
+toCpu number a = record { status = status number; address = cpu a }
+
+abbrev pub toBus : ℤ → ℕ → ToBus
+toBus number a = record { status = status number; address = bus a }

@@ -1,4 +1,6 @@
 // The answer of each kind of outcome.
+use access::convert::ToBus;
+use access::convert::ToCpu;
 use board::read::FastRead;
 use board::read::Read;
 use board::status::Status;
@@ -14,7 +16,7 @@ ghost use lib.IntN.{pos};
 ghost use Prim.Native.Nat.{_<_};
 ghost use Rattle.window_list.specs.Listing.{numberOf, valuesOf, spaceNumber, startNumber, lengthNumber};
 ghost use Rattle.config.specs.Search.{foundNumber};
-ghost use Rattle.reference.specs.Answers.{answer, one, ofStatus, ofSearch, ofRead, ofFastRead};
+ghost use Rattle.reference.specs.Answers.{answer, one, ofStatus, ofSearch, ofRead, ofFastRead, ofToCpu, ofToBus};
 ghost use Rattle.bios.specs.Exports.{handleFound};
 
 // The answer with the number of a load or of the writer, and one value.
@@ -51,6 +53,19 @@ pub(crate) fn of_read(read: Read) -> Answer
     ensures { λ r. ⌜ r ≡ ofRead read ⌝ }
 {
     of_value(read.status, read.value)
+}
+
+// The answers of the conversions.
+pub(crate) fn of_to_cpu(to: ToCpu) -> Answer
+    ensures { λ r. ⌜ r ≡ ofToCpu to ⌝ }
+{
+    of_value(to.status, to.address.0)
+}
+
+pub(crate) fn of_to_bus(to: ToBus) -> Answer
+    ensures { λ r. ⌜ r ≡ ofToBus to ⌝ }
+{
+    of_value(to.status, to.address.0)
 }
 
 // The answer of a fast read, which has no number.

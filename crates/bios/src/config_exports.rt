@@ -1,10 +1,11 @@
 // Searches and configuration calls for C. A width is a number here; another than 1, 2 or 4 is refused before all else.
 use crate::answer::of_search;
+use crate::width::AskedWidth;
+use crate::width::width_of;
 use board::layout::Header;
 use board::layout::Records;
 use board::layout::Registers;
 use board::layout::Windows;
-use board::number::Width;
 use board::status::Status;
 use config::read::fast_read_config;
 use config::read::read_config;
@@ -17,27 +18,6 @@ ghost use Rattle.board.specs.Layout.{registerByte};
 ghost use Rattle.config.specs.Search.{devices, classes, searchNumber};
 ghost use Rattle.config.specs.Write.{wrote};
 ghost use Rattle.bios.specs.Exports.{status, widthOf, readNumbers, askedRead, fastNumbers, fastShown, askedFastRead, askedWrite};
-
-// A width that C asked for.
-pub(crate) enum AskedWidth {
-    Known(Width),
-    Other,
-}
-
-fn width_of(width: u32) -> AskedWidth
-    ensures { λ r. ⌜ r ≡ widthOf width ⌝ }
-{
-    if width == 1 {
-        return AskedWidth::Known(Width::Byte);
-    }
-    if width == 2 {
-        return AskedWidth::Known(Width::Word);
-    }
-    if width == 4 {
-        return AskedWidth::Known(Width::Long);
-    }
-    AskedWidth::Other
-}
 
 // The handle of the match with so many matches before it, or -4.
 #[no_mangle]

@@ -5,6 +5,13 @@ use crate::answer::of_number;
 use crate::answer::of_read;
 use crate::answer::of_search;
 use crate::answer::of_status;
+use crate::answer::of_to_bus;
+use crate::answer::of_to_cpu;
+use access::convert::bus_to_cpu;
+use access::convert::cpu_to_bus;
+use access::data::fast_read_data;
+use access::data::read_data;
+use access::data::write_data;
 use board::layout::CellOffsets;
 use board::layout::Header;
 use board::layout::Hooks;
@@ -103,6 +110,74 @@ pub fn perform(
                 value,
             ))
         }
+        Call::ReadData {
+            space,
+            width,
+            handle,
+            address,
+        } => {
+            of_read(read_data(
+                header,
+                records,
+                windows,
+                offsets,
+                cells,
+                space,
+                width,
+                handle,
+                address,
+            ))
+        }
+        Call::FastReadData {
+            space,
+            width,
+            handle,
+            address,
+        } => {
+            of_fast_read(fast_read_data(
+                header,
+                records,
+                windows,
+                offsets,
+                cells,
+                space,
+                width,
+                handle,
+                address,
+            ))
+        }
+        Call::WriteData {
+            space,
+            width,
+            handle,
+            address,
+            value,
+        } => {
+            of_status(write_data(
+                header,
+                records,
+                windows,
+                offsets,
+                cells,
+                space,
+                width,
+                handle,
+                address,
+                value,
+            ))
+        }
+        Call::BusToCpu { handle, address } => of_to_cpu(bus_to_cpu(
+            header,
+            records,
+            handle,
+            address,
+        )),
+        Call::CpuToBus { handle, address } => of_to_bus(cpu_to_bus(
+            header,
+            records,
+            handle,
+            address,
+        )),
         Call::ListWindow { n } => of_listing(list_window(windows, n)),
     }
 }

@@ -29,3 +29,8 @@ parts header records registers windows cellOffsets hooks used cells =
 abbrev pub withRegisters : List ℕ → List ℕ → Parts → Parts
 withRegisters registers windows p =
     parts (p .header) (p .records) registers windows (p .cellOffsets) (p .hooks) (p .used) (p .cells)
+
+-- with other cells
+abbrev pub withCells : List ℕ → Parts → Parts
+withCells cells p =
+    parts (p .header) (p .records) (p .registers) (p .windows) (p .cellOffsets) (p .hooks) (p .used) cells

@@ -1,6 +1,7 @@
 // Bytes and the numbers that they make: total readers, 0 past the end, and powers of two.
 ghost use mathlib.Core.Path.{_≡_};
 ghost use Prim.Native.Nat.{_+_, _*_, _%_, _<_};
+ghost use lib.Dec.{eqb};
 ghost use lib.ListN.{getD, set};
 ghost use Rattle.board.specs.Numbers.{byteAt, bytes, little, big, reversed, power};
 
@@ -19,6 +20,17 @@ pub fn bytes(width: Width) -> u8
         Width::Byte => 1,
         Width::Word => 2,
         Width::Long => 4,
+    }
+}
+
+// Whether a number is a multiple of a width.
+pub fn is_multiple(n: u32, width: Width) -> bool
+    ensures { λ r. ⌜ r ≡ eqb (n % bytes width) 0 ⌝ }
+{
+    match width {
+        Width::Byte => true,
+        Width::Word => n % 2 == 0,
+        Width::Long => n % 4 == 0,
     }
 }
 

@@ -41,7 +41,7 @@ pub before-next : (k : ℕ → ℕ → ℕ) (s : ℕ) → cellsBefore k (s + 1) 
 unfolding cellsBefore
 before-next k s = rw add-one
 
-before-apart : (k : ℕ → ℕ → ℕ) (s t : ℕ) → s < t → cellsBefore k s + slotCells k s ≤ cellsBefore k t
+pub before-apart : (k : ℕ → ℕ → ℕ) (s t : ℕ) → s < t → cellsBefore k s + slotCells k s ≤ cellsBefore k t
 before-apart k s t h =
     let e : t ≡ s + 1 + (t - (s + 1)) = omega arith in
     rw (← before-next k s, e) (before-grows k (s + 1) (t - (s + 1)))

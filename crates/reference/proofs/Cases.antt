@@ -1,21 +1,23 @@
 -- The proved cases, worked out from the bytes of B1's image.
 use mathlib.Core.Path.{refl}
-use Rattle.board.specs.Numbers.{little, big}
+use Rattle.board.specs.Numbers.{little, big, reversed}
+use Rattle.board.specs.Tables.{tableFrom}
 use Rattle.window_list.specs.Windows.{windowAt, gather, openWindows, put, putAll, listOf}
 use Rattle.window_list.specs.Listing.{listedNumber, listedValues}
 use Rattle.config.specs.Target.{target}
 use Rattle.config.specs.Search.{matching, searchNumber}
+use Rattle.access.specs.Find.{inList, find}
 use Rattle.record.specs.Record.{entryOk, recordOk}
 use Rattle.image.specs.Cells.{cellsBefore}
 use Rattle.image.specs.Image.{sum}
 use Rattle.image.specs.Refusals.{firstBad, firstRefusal}
-use Rattle.reference.specs.Reference.{split, verdict, referenceStep}
+use Rattle.reference.specs.Reference.{placeIn, split, verdict, referenceStep}
 use Rattle.reference.specs.Run.{referenceAnswers}
 use Rattle.reference.specs.Cases.{stored, b1, ProvedCases, B1Short}
 
 pub proved-cases : ProvedCases
-unfolding stored b1 little big windowAt gather openWindows put putAll listOf listedNumber listedValues target matching searchNumber entryOk recordOk cellsBefore sum firstBad firstRefusal split verdict referenceStep referenceAnswers
-proved-cases = (refl, (refl, (refl, (refl, (refl, (refl, (refl, (refl, (refl, (refl, tt))))))))))
+unfolding stored b1 little big tableFrom windowAt gather openWindows put putAll listOf listedNumber listedValues target matching searchNumber inList find placeIn reversed entryOk recordOk cellsBefore sum firstBad firstRefusal split verdict referenceStep referenceAnswers
+proved-cases = (refl, (refl, (refl, (refl, (refl, (refl, (refl, (refl, (refl, (refl, (refl, (refl, (refl, tt)))))))))))))
 
 pub b1-short : B1Short
 unfolding stored b1 little big entryOk recordOk cellsBefore sum firstBad firstRefusal split verdict referenceStep referenceAnswers

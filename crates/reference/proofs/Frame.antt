@@ -1,33 +1,30 @@
 -- Claim 3: what a call may not touch is equal before and after it.
-use Prim.Native.Nat.{ℕ, zero, suc, _+_, _*_, _-_, _/_, _≤_}
-use native.Mathlib.Omega.{arith}
-use native.Mathlib.Nat.{zero-add, add-zero}
+use Prim.Native.Nat.{ℕ, _*_, _/_}
 use native.Mathlib.Numerals.{add-one}
-use mathlib.Core.Bool.{Bool, true, false, false≢true}
+use mathlib.Core.Bool.{false}
 use mathlib.Core.Path.{_≡_, refl, sym, _∙_, ap}
-use mathlib.Core.List.{List, _++_}
+use mathlib.Core.List.{List}
 use lib.Dec.{ltb, eqb, eqb·suc-suc}
-use lib.ListN.{length, getD, drop, length-append, length-drop}
-use lib.Seq.{getD-append-add, getD-drop}
+use lib.ListN.{length, length-append}
 use borrow.Author.Tests.{ltb-false, eqb-true}
 use Rattle.board.specs.Parts.{Parts}
 use Rattle.board.specs.Layout.{functionsMax, registersEach, markSize}
-use Rattle.board.specs.Tables.{tableFrom, table}
-use Rattle.board.proofs.Tables.{table-length}
+use Rattle.board.specs.Numbers.{bytes}
 use Rattle.config.specs.Write.{movesWindows}
-use Rattle.image.specs.Cells.{total, zeroed}
+use Rattle.access.specs.Find.{spaceNumber}
+use Rattle.image.specs.Cells.{total}
 use Rattle.image.specs.Image.{imageSize, sum, trailer}
-use Rattle.image.proofs.Lists.{zeroed-length, zeroed-past, trailer-length}
+use Rattle.image.proofs.Lists.{trailer-length}
 use Rattle.image.proofs.Accepted.{accepted-image}
 use Rattle.reference.specs.declared.Answer.{Answer}
 use Rattle.reference.specs.declared.Call.{Call}
-use Rattle.reference.specs.declared.Call.the-variants.{Load, Reset, WriteImage, FindPciDevice, FindPciClasscode, ReadConfig, FastReadConfig, WriteConfig, ListWindow}
-use Rattle.reference.specs.Answers.{answer}
+use Rattle.reference.specs.declared.Call.the-variants.{Load, Reset, WriteImage, FindPciDevice, FindPciClasscode, ReadConfig, FastReadConfig, WriteConfig, ReadData, FastReadData, WriteData, BusToCpu, CpuToBus, ListWindow}
 use Rattle.reference.specs.State.{next}
-use Rattle.reference.specs.Reference.{Reference, Told, told, exponentOf, joined, imageBytes, targetOf, writeOf, verdict, referenceStep, referenceStart}
+use Rattle.reference.specs.Reference.{Reference, Told, told, exponentOf, joined, imageBytes, targetOf, placeFor, withCellsOf, writeOf, verdict, referenceStep, referenceStart}
 use Rattle.reference.specs.Run.{Asked, stepOn, referenceAfter, partsOf}
 use Rattle.reference.specs.Claims.{Touch, none, every, touch, addressed, mayTouch, Alike, Framed, Frame}
-use Rattle.reference.proofs.Tests.{ifTest, ifTarget}
+use Rattle.reference.proofs.Tests.{ifTest, ifTarget, ifAt}
+use Rattle.reference.proofs.Alike.{alike, touched, zeroed-alike, table-alike, front-alike, written-alike}
 use Rattle.reference.proofs.Records.{joined-length}
 use Rattle.reference.proofs.Same.{image-total, verdict-same}
 use Rattle.reference.proofs.Sound.{Sound}
@@ -35,19 +32,15 @@ use Rattle.reference.proofs.Configuration.{left, follows, writes}
 use Rattle.reference.proofs.Simulation.{same, sound-start, start-same}
 use Rattle.reference.proofs.Refinement.{goes}
 
-alike : (t : ℕ → Bool) (l : List ℕ) → Alike t l l
-alike t l = record { room = refl; same = λ i e. refl }
-
-touched : {A : Type 0} → true ≡ false → A
-touched e = absurd (false≢true (sym e))
-
 -- what the claim says of the reference machine's outcome
 abbrev Stays : Touch → Reference → List ℕ → Told → Type 0
 Stays t b own r = Framed t (partsOf b) own (next (r .answer) (partsOf (r .reference)) (r .own))
 
--- a call that leaves the board, and of its own buffer what it may not touch
-own-only : (t : Touch) (b : Reference) (own out : List ℕ) (a : Answer) → Alike (t .own) out own → Stays t b own (told a b out)
-own-only t b own out a k =
+-- a call that leaves the board but for cells that it may touch, and of its own buffer what it may not touch
+cells-and-own : (t : Touch) (b : Reference) (cells own out : List ℕ) (a : Answer) → Alike (t .cells) cells (b .cells) → Alike (t .own) out own
+    → Stays t b own (told a (withCellsOf cells b) out)
+unfolding partsOf
+cells-and-own t b cells own out a c k =
     record {
       header = λ e. refl;
       records = λ e. refl;
@@ -56,42 +49,15 @@ own-only t b own out a k =
       list = λ e. refl;
       hooks = λ e. refl;
       used = alike _ _;
-      cells = alike _ _;
+      cells = c;
       own = k;
     }
 
+own-only : (t : Touch) (b : Reference) (own out : List ℕ) (a : Answer) → Alike (t .own) out own → Stays t b own (told a b out)
+own-only t b own out a k = cells-and-own t b (b .cells) own out a (alike (t .cells) (b .cells)) k
+
 keeps : (t : Touch) (b : Reference) (own : List ℕ) (a : Answer) → Stays t b own (told a b own)
 keeps t b own a = own-only t b own own a (alike (t .own) own)
-
--- cells past those that are zeroed
-zeroed-alike : (n : ℕ) (cells : List ℕ) → n ≤ length cells → Alike (λ i. ltb i n) (zeroed n cells) cells
-zeroed-alike n cells h = record { room = zeroed-length n cells h; same = λ i e. zeroed-past n cells i (ltb-false i n e) }
-
--- two tables of a length, whose functions agree where no touch is allowed
-table-alike : (t : ℕ → Bool) (n : ℕ) (f g : ℕ → ℕ) → ((j : ℕ) → t j ≡ false → f j ≡ g j) → Alike t (table n f) (table n g)
-unfolding tableFrom
-table-alike t n f g e =
-    record { room = table-length 0 n f ∙ sym (table-length 0 n g); same = λ j u. agree 0 n j (rw (zero-add j) (e j u)) }
-  where
-    agree : (i m j : ℕ) → f (i + j) ≡ g (i + j) → getD (tableFrom i m f) j 0 ≡ getD (tableFrom i m g) j 0
-    agree i zero j d = refl
-    agree i (suc m) zero d = rw (add-zero i) at d
-    agree i (suc m) (suc j) d = let k : suc i + j ≡ i + suc j = omega arith in agree (suc i) m j (rw k d)
-
--- an image put to the front of an own buffer
-front-alike : (n : ℕ) (image own : List ℕ) → length image ≡ n → n ≤ length own → Alike (λ i. ltb i n) (image ++ drop n own) own
-front-alike n image own e h =
-    record {
-      room = length-append image (drop n own) ∙ rw (e, length-drop n own) (omega arith);
-      same = λ i t. past i (ltb-false i n t);
-    }
-  where
-    past : (i : ℕ) → n ≤ i → getD (image ++ drop n own) i 0 ≡ getD own i 0
-    past i l =
-        let a : i ≡ length image + (i - n) = omega (arith, e) in
-        let c : n + (i - n) ≡ i = omega arith in
-        ap (λ j. getD (image ++ drop n own) j 0) a ∙ getD-append-add image (drop n own) (i - n) 0 ∙ getD-drop n own (i - n) 0
-        ∙ ap (λ j. getD own j 0) c
 
 -- what a write of w registers may touch
 abbrev writeTouch : ℕ → ℕ → ℕ → Touch
@@ -192,6 +158,14 @@ module _ (b : Reference) (s : Sound b) (own : List ℕ) where
   stays (ReadConfig width handle register) = keeps (mayTouch b (ReadConfig width handle register) own) b own _
   stays (FastReadConfig width handle register) = keeps (mayTouch b (FastReadConfig width handle register) own) b own _
   stays (WriteConfig width handle register value) = stays-written _ handle register value
+  stays (ReadData space width handle address) = keeps (mayTouch b (ReadData space width handle address) own) b own _
+  stays (FastReadData space width handle address) = keeps (mayTouch b (FastReadData space width handle address) own) b own _
+  stays (WriteData space width handle address value) =
+      ifAt (placeFor b (bytes width) (spaceNumber space) handle (address .0))
+      (λ at order e. rw e (cells-and-own _ b _ own own _ (written-alike order _ at value (b .cells)) (alike _ own)))
+      (λ r e. rw e (keeps _ b own _))
+  stays (BusToCpu handle address) = keeps (mayTouch b (BusToCpu handle address) own) b own _
+  stays (CpuToBus handle address) = keeps (mayTouch b (CpuToBus handle address) own) b own _
   stays (ListWindow n) = keeps (mayTouch b (ListWindow n) own) b own _
 
 framed : (b : Reference) → Sound b → (c : Asked) → Framed (mayTouch b (c .call) (c .own)) (partsOf b) (c .own) (stepOn (partsOf b) c)

@@ -5,8 +5,15 @@ pub mod Registers
 pub mod Same
 pub mod Sound
 pub mod Configuration
+pub mod InSlot
+pub mod Data
 pub mod Simulation
 pub mod Refinement
 pub mod Refusal
+pub mod Alike
 pub mod Frame
+pub mod Like
+pub mod Seen
+pub mod NonInterference
+pub mod Demand3
 pub mod Cases

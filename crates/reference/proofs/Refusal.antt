@@ -11,16 +11,27 @@ use borrow.Author.Tests.{ne-eqb}
 use lib.ListN.{length, getD}
 use Rattle.board.specs.Parts.{Parts, withRegisters}
 use Rattle.board.specs.Layout.{functionsMax, windowsMax, registerByte}
+use Rattle.board.specs.declared.address.BusAddress.{BusAddress}
 use Rattle.board.specs.declared.number.Width.{Width}
+use Rattle.board.specs.declared.status.Status.{Status}
 use Rattle.board.specs.Numbers.{bytes}
 use Rattle.board.specs.Statuses.{deviceNotFound}
-use Rattle.board.specs.Handles.{functionCount}
+use Rattle.board.specs.Handles.{functionCount, isHandle}
 use Rattle.window_list.specs.Windows.{Window}
 use Rattle.window_list.specs.Kept.{unpacked}
 use Rattle.window_list.specs.Listing.{listing, numberOf, valuesOf}
 use Rattle.config.specs.Read.{readOf, fastReadOf}
 use Rattle.config.specs.Write.{writeTo, writeConfig}
 use Rattle.config.specs.Search.{searched, foundNumber}
+use Rattle.access.specs.Cells.{placeOf, dataPlace}
+use Rattle.access.specs.Find.{spaceNumber}
+use Rattle.access.specs.declared.find.Finding.{Finding}
+use Rattle.access.specs.declared.find.Finding.the-variants.{Found, BadHandle, ShortCells, NotAligned, Nothing, Contested, WidthMissing}
+use Rattle.access.specs.declared.find.Space.{Space}
+use Rattle.access.specs.declared.place.Place.{Place}
+use Rattle.access.specs.declared.place.Place.the-variants.{At, Refused as NoPlace}
+use Rattle.access.specs.declared.convert.ToBus.{ToBus}
+use Rattle.access.specs.declared.convert.ToCpu.{ToCpu}
 use Rattle.image.specs.Image.{trailerSize, imageSize}
 use Rattle.image.specs.Refusals.{Facts, imageMax, cellsMax, accepted, refused, badRecord, firstRefusal}
 use Rattle.image.specs.Check.{factsOf, checked}
@@ -28,11 +39,11 @@ use Rattle.image.specs.Load.{ResetOutcome, loaded, load, reset}
 use Rattle.image.specs.Write.{Written, write}
 use Rattle.image.specs.declared.check.Verdict.{Verdict}
 use Rattle.reference.specs.declared.Call.{Call}
-use Rattle.reference.specs.declared.Call.the-variants.{Load, Reset, WriteImage, FindPciDevice, FindPciClasscode, ReadConfig, FastReadConfig, WriteConfig, ListWindow}
-use Rattle.reference.specs.Answers.{answer, zeros, ofStatus, ofVerdict, ofSearch, ofRead, ofFastRead}
+use Rattle.reference.specs.declared.Call.the-variants.{Load, Reset, WriteImage, FindPciDevice, FindPciClasscode, ReadConfig, FastReadConfig, WriteConfig, ReadData, FastReadData, WriteData, BusToCpu, CpuToBus, ListWindow}
+use Rattle.reference.specs.Answers.{answer, zeros, ofStatus, ofVerdict, ofSearch, ofRead, ofFastRead, ofToCpu, ofToBus}
 use Rattle.reference.specs.State.{Next, next, step}
-use Rattle.reference.specs.Claims.{Among, refusals, Filler, Untouched, Refusal}
-use Rattle.reference.proofs.Tests.{ifTest, ifTarget}
+use Rattle.reference.specs.Claims.{dataRefusals, Among, refusals, Filler, Untouched, Refusal}
+use Rattle.reference.proofs.Tests.{ifTest, ifTarget, ifAt}
 
 -- what the claim says of one outcome
 abbrev Kept : Parts → Call → List ℕ → Next → Type 0
@@ -105,6 +116,29 @@ write-kept p own width w handle register value =
     (λ f. record { number = inr (inl refl); filler = refl; parts = refl; own = refl })
     (λ f. record { number = inl refl; filler = refl; parts = refl; own = refl })
 
+-- where a data access stands
+abbrev placeAt : Parts → Space → Width → ℕ → BusAddress → Place
+placeAt p space width handle address =
+    dataPlace (bytes width) (p .header) (p .records) (p .windows) (p .cellOffsets) (length (p .cells)) (spaceNumber space) handle (address .0)
+
+place-stated : (begins orders : ℕ → ℕ) (room w : ℕ) (f : Finding) (s : Status) → placeOf begins orders room w f ≡ NoPlace s → Among (s .0) dataRefusals
+unfolding placeOf
+place-stated begins orders room w (Found base distance remaining) s e =
+    ifTest (λ (q : Place). q ≡ NoPlace s → Among (s .0) dataRefusals) (ltb room _) (λ t h. inr (inl (cc h))) (λ t h. absurd (false≢true (cc h))) e
+place-stated begins orders room w BadHandle s e = inl (cc e)
+place-stated begins orders room w ShortCells s e = inr (inl (cc e))
+place-stated begins orders room w NotAligned s e = inr (inr (inl (cc e)))
+place-stated begins orders room w Nothing s e = inr (inr (inl (cc e)))
+place-stated begins orders room w Contested s e = inr (inr (inl (cc e)))
+place-stated begins orders room w WidthMissing s e = inr (inr (inr (inl (cc e))))
+
+-- it stands at cells, or is refused with one of the stated numbers
+ifPlace : {X : Type 0} (p : Parts) (space : Space) (width : Width) (handle : ℕ) (address : BusAddress)
+    → ((at order : ℕ) → placeAt p space width handle address ≡ At at order → X)
+    → ((s : Status) → Among (s .0) dataRefusals → placeAt p space width handle address ≡ NoPlace s → X) → X
+ifPlace p space width handle address f r =
+    ifAt (placeAt p space width handle address) f (λ s e. r s (place-stated _ _ _ _ _ s e) e)
+
 pub refusal : Refusal
 unfolding step load reset write
 refusal p Load own = load-kept p _ own (checked own (length (p .cells))) (stated own (length (p .cells)))
@@ -135,4 +169,19 @@ refusal p (FastReadConfig width handle register) own =
     (λ f. record { number = inl refl; filler = refl; parts = refl; own = refl })
     (λ f. record { number = inl refl; filler = refl; parts = refl; own = refl })
 refusal p (WriteConfig width handle register value) own = write-kept p own width _ handle register value
+refusal p (ReadData space width handle address) own =
+    ifPlace p space width handle address (λ at order e. rw e (λ f. not-refused f))
+    (λ s a e. rw e (λ f. record { number = a; filler = refl; parts = refl; own = refl }))
+refusal p (FastReadData space width handle address) own =
+    ifPlace p space width handle address (λ at order e. rw e (λ f. not-refused f))
+    (λ s a e. rw e (λ f. record { number = inl refl; filler = refl; parts = refl; own = refl }))
+refusal p (WriteData space width handle address value) own =
+    ifPlace p space width handle address (λ at order e. rw e (λ f. not-refused f))
+    (λ s a e. rw e (λ f. record { number = a; filler = refl; parts = refl; own = refl }))
+refusal p (BusToCpu handle address) own =
+    ifTest (λ (r : ToCpu). Kept p (BusToCpu handle address) own (next (ofToCpu r) p own)) (isHandle (p .header) handle)
+    (λ e f. not-refused f) (λ e f. record { number = inl refl; filler = refl; parts = refl; own = refl })
+refusal p (CpuToBus handle address) own =
+    ifTest (λ (r : ToBus). Kept p (CpuToBus handle address) own (next (ofToBus r) p own)) (isHandle (p .header) handle)
+    (λ e f. not-refused f) (λ e f. record { number = inl refl; filler = refl; parts = refl; own = refl })
 refusal p (ListWindow n) own = list-kept p own n (unpacked (p .windows)) n

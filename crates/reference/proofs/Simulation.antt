@@ -23,7 +23,7 @@ use Rattle.image.proofs.Lists.{zeroed-length}
 use Rattle.image.proofs.Ranges.{offset-at}
 use Rattle.image.proofs.Accepted.{accepted-image}
 use Rattle.reference.specs.declared.Call.{Call}
-use Rattle.reference.specs.declared.Call.the-variants.{Load, Reset, WriteImage, FindPciDevice, FindPciClasscode, ReadConfig, FastReadConfig, WriteConfig, ListWindow}
+use Rattle.reference.specs.declared.Call.the-variants.{Load, Reset, WriteImage, FindPciDevice, FindPciClasscode, ReadConfig, FastReadConfig, WriteConfig, ReadData, FastReadData, WriteData, BusToCpu, CpuToBus, ListWindow}
 use Rattle.reference.specs.Answers.{answer, zeros, ofStatus, ofVerdict}
 use Rattle.reference.specs.State.{next, step}
 use Rattle.reference.specs.Reference.{Reference, exponentOf, joined, fresh, imageRecords, windowsOf, imageBytes, verdict, referenceStep, referenceStart}
@@ -33,6 +33,7 @@ use Rattle.reference.proofs.Records.{Sized, joined-length}
 use Rattle.reference.proofs.Same.{image-total, verdict-same, whole, installed-same, restart-same, no-hooks, no-marks}
 use Rattle.reference.proofs.Sound.{Sound, Same, Simulated, as-told, count-same}
 use Rattle.reference.proofs.Configuration.{same-device, same-class, same-read, same-fast-read, same-write-config}
+use Rattle.reference.proofs.Data.{same-read-data, same-fast-read-data, same-write-data, same-bus-to-cpu, same-cpu-to-bus}
 
 -- a fresh board is sound
 fresh-sound : (rs : List (List ℕ)) (cells : List ℕ) → length rs ≤ functionsMax → Sized rs → total (exponentOf rs) ≤ length cells → Sound (fresh rs cells)
@@ -104,6 +105,11 @@ module _ (b : Reference) (s : Sound b) where
   same (ReadConfig width handle register) own = same-read b s width handle register own
   same (FastReadConfig width handle register) own = same-fast-read b s width handle register own
   same (WriteConfig width handle register value) own = same-write-config b s width handle register value own
+  same (ReadData space width handle address) own = same-read-data b s space width handle address own
+  same (FastReadData space width handle address) own = same-fast-read-data b s space width handle address own
+  same (WriteData space width handle address value) own = same-write-data b s space width handle address value own
+  same (BusToCpu handle address) own = same-bus-to-cpu b s handle address own
+  same (CpuToBus handle address) own = same-cpu-to-bus b s handle address own
   same (ListWindow n) own = same-list n own
 
 no-cells : total (exponentOf []) ≡ 0

@@ -1,4 +1,4 @@
--- A choice taken apart: of one term, of two terms that make the same test, and of what a configuration access is for.
+-- A choice taken apart: of one term, of two terms that make the same test, of what a configuration access is for, and of where a data access stands.
 use Prim.Native.Nat.{ℕ, _+_, _-_, _%_, _<_, _≤_}
 use native.Mathlib.Omega.{arith}
 use mathlib.Core.Bool.{Bool, true, false, cond, _&&_}
@@ -7,10 +7,13 @@ use lib.Dec.{eqb, leb}
 use borrow.Author.Tests.{leb-true}
 use Rattle.board.specs.Layout.{registersEach}
 use Rattle.board.specs.Statuses.{badRegisterNumber, badHandle}
+use Rattle.board.specs.declared.status.Status.{Status}
 use Rattle.board.proofs.Tests.{both-true}
 use Rattle.config.specs.Target.{fits, target}
 use Rattle.config.specs.declared.target.Target.{Target}
 use Rattle.config.specs.declared.target.Target.the-variants.{Function, Refused}
+use Rattle.access.specs.declared.place.Place.{Place}
+use Rattle.access.specs.declared.place.Place.the-variants.{At, Refused as NoPlace}
 
 pub ifTest : {A : Type 0} (P : A → Type 0) (t : Bool) {x y : A} → (t ≡ true → P x) → (t ≡ false → P y) → P (cond t x y)
 ifTest P true p q = p refl
@@ -36,3 +39,8 @@ ifTarget P count w handle register f r h =
     (λ g. f (handle - 1) (omega arith) (omega arith) (leb-true (register + w) registersEach (both-true (eqb (register % w) 0) (leb (register + w) registersEach) g .1)))
     (λ g. r))
     (λ e. h)
+
+-- a data access stands at cells or is refused
+pub ifAt : {X : Type 0} (q : Place) → ((at order : ℕ) → q ≡ At at order → X) → ((s : Status) → q ≡ NoPlace s → X) → X
+ifAt (At at order) f r = f at order refl
+ifAt (NoPlace s) f r = r s refl

@@ -7,6 +7,8 @@ use lib.ListN.{replicate}
 use Rattle.board.specs.declared.status.Status.{Status}
 use Rattle.board.specs.declared.read.Read.{Read}
 use Rattle.board.specs.declared.read.FastRead.{FastRead}
+use Rattle.access.specs.declared.convert.ToBus.{ToBus}
+use Rattle.access.specs.declared.convert.ToCpu.{ToCpu}
 use Rattle.image.specs.declared.check.Verdict.{Verdict}
 use Rattle.reference.specs.declared.Answer.{Answer}
 
@@ -49,3 +51,10 @@ ofRead r = answer (r .status .0) (one (r .value))
 -- a fast read hands back its value and the fault flag, and no number
 abbrev pub ofFastRead : FastRead → Answer
 ofFastRead r = record { number = pos 0; refused = r .fault; values = one (r .value) }
+
+-- a conversion's number and address
+abbrev pub ofToCpu : ToCpu → Answer
+ofToCpu r = answer (r .status .0) (one (r .address .0))
+
+abbrev pub ofToBus : ToBus → Answer
+ofToBus r = answer (r .status .0) (one (r .address .0))

@@ -5,11 +5,14 @@ use mathlib.Core.Path.{_≡_}
 use lib.IntN.{pos}
 use lib.ListN.{replicate, set}
 use Rattle.board.specs.Layout.{recordSize}
-use Rattle.board.specs.Statuses.{successful, deviceNotFound}
+use Rattle.board.specs.Statuses.{successful, deviceNotFound, generalError}
 use Rattle.board.specs.declared.number.Width.the-variants.{Byte, Long}
+use Rattle.access.specs.Cells.{valueAt}
+use Rattle.access.specs.Orders.{placed}
+use Rattle.access.specs.declared.find.Space.the-variants.{Memory}
 use Rattle.reference.specs.declared.Answer.{Answer}
 use Rattle.reference.specs.declared.Call.{Call}
-use Rattle.reference.specs.declared.Call.the-variants.{Load, FindPciDevice, FindPciClasscode, ReadConfig, WriteConfig, ListWindow}
+use Rattle.reference.specs.declared.Call.the-variants.{Load, FindPciDevice, FindPciClasscode, ReadConfig, WriteConfig, WriteData, ListWindow}
 use Rattle.reference.specs.Answers.{answer, zeros, one, ofStatus, ofSearch}
 use Rattle.reference.specs.Reference.{referenceStart}
 use Rattle.reference.specs.Run.{asked, heard, referenceAnswers}
@@ -45,13 +48,19 @@ b1 =
     stored (at 0x13 0x80 ∷ both ++ memory) ++ stored (at 0x11 0x04 ∷ at 0x13 0x80 ∷ at 0x14 0x01 ∷ at 0x15 0x01 ∷ both ++ (memory ++ ports))
     ++ (0 ∷ 0 ∷ 4 ∷ 0x4C ∷ 0 ∷ 2 ∷ 0 ∷ 1 ∷ 0 ∷ 0 ∷ 0x0E ∷ 0x88 ∷ [])
 
--- the calls of a case, each without a buffer of its own, and the answers that they give on a fresh B1
-pub record Case : Type 0 where
-  pub calls : List Call
-  pub answers : List Answer
+-- a value that cells at the start of a window give in a byte order
+pub record Reading : Type 0 where
+  pub order : ℕ
+  pub width : ℕ
+  pub value : ℕ
 
-abbrev pub case : List Call → List Answer → Case
-case calls answers = record { calls = calls; answers = answers }
+abbrev pub reading : ℕ → ℕ → ℕ → Reading
+reading order width value = record { order = order; width = width; value = value }
+
+-- a case: calls, each without a buffer of its own, and the answers that they give on a fresh B1; or cells, and what is read of them
+pub data Case : Type 0 where
+  case : List Call → List Answer → Case
+  cells : List ℕ → List Reading → Case
 
 -- a handle found; a number and a value; a window listed
 abbrev pub found : ℕ → Answer
@@ -71,7 +80,7 @@ list start contested =
 abbrev pub listing : List Call
 listing = ListWindow 0 ∷ ListWindow 1 ∷ ListWindow 2 ∷ ListWindow 3 ∷ []
 
--- the window list of B1, and P1 to P8 and P11
+-- the window list of B1, and document 01's cases
 abbrev pub b1List : Case
 b1List = case listing (list 0x80000400 0)
 
@@ -99,19 +108,30 @@ p7 = case (WriteConfig Byte 1 0x11 0x12 ∷ ReadConfig Long 1 0x10 ∷ []) (ofSt
 abbrev pub p8 : Case
 p8 = case (WriteConfig Long 2 0x14 0xFFFFFFFF ∷ ReadConfig Long 2 0x14 ∷ []) (ofStatus successful ∷ value 0xFFFFFFF1 ∷ [])
 
+-- one longword past the end of handle 1's window, and its last
+abbrev pub p9 : Case
+p9 = case (WriteData Memory Long 1 (record { 0 = 0x80000400 }) 1 ∷ []) (ofStatus generalError ∷ [])
+
+abbrev pub p10 : Case
+p10 = case (WriteData Memory Long 1 (record { 0 = 0x800003FC }) 1 ∷ []) (ofStatus successful ∷ [])
+
 abbrev pub p11 : Case
 p11 =
     case (WriteConfig Long 2 0x10 0x80000000 ∷ listing ++ WriteConfig Long 2 0x10 0x80000400 ∷ listing)
     (ofStatus successful ∷ list 0x80000000 1 ++ ofStatus successful ∷ list 0x80000400 0)
 
-abbrev pub table : List Case
-table = b1List ∷ p1 ∷ p2 ∷ p3 ∷ p4 ∷ p5 ∷ p6 ∷ p7 ∷ p8 ∷ p11 ∷ []
+abbrev pub p13 : Case
+p13 = cells (0x11 ∷ 0x22 ∷ 0x33 ∷ 0x44 ∷ []) (reading 1 2 0x3344 ∷ reading 1 1 0x44 ∷ reading 2 4 0x44332211 ∷ [])
 
--- a case holds where the reference machine, with B1's 2,064 cells, loads B1 and then gives its answers
+abbrev pub table : List Case
+table = b1List ∷ p1 ∷ p2 ∷ p3 ∷ p4 ∷ p5 ∷ p6 ∷ p7 ∷ p8 ∷ p9 ∷ p10 ∷ p11 ∷ p13 ∷ []
+
+-- a case holds where the reference machine, with B1's 2,064 cells, loads B1 and then gives its answers; or where the byte-order rule gives what is read
 abbrev pub Holds : Case → Type 0
-Holds c =
-    referenceAnswers (referenceStart (replicate 2064 0)) (asked Load b1 ∷ map (λ call. asked call []) (c .calls))
-    ≡ heard (ofStatus successful) b1 ∷ map (λ a. heard a []) (c .answers)
+Holds (case calls answers) =
+    referenceAnswers (referenceStart (replicate 2064 0)) (asked Load b1 ∷ map (λ call. asked call []) calls)
+    ≡ heard (ofStatus successful) b1 ∷ map (λ a. heard a []) answers
+Holds (cells l readings) = map (λ r. valueAt (r .order) (r .width) (placed (r .order) (r .width) 0) l) readings ≡ map (λ r. r .value) readings
 
 -- THE PROVED CASES: every row of the table holds
 abbrev pub Every : List Case → Type 0

@@ -1,6 +1,6 @@
 -- The claims about runs, without their proofs.
-use Prim.Native.Nat.{ℕ, _+_, _-_, _/_, _%_, _^_}
-use mathlib.Core.Bool.{Bool, true, false, _&&_}
+use Prim.Native.Nat.{ℕ, _+_, _-_, _*_, _/_, _%_, _^_, _<_}
+use mathlib.Core.Bool.{Bool, true, false, cond, _&&_}
 use mathlib.Core.List.{List, [], _∷_}
 use mathlib.Core.Logic.{_⊎_}
 use mathlib.Core.Path.{_≡_}
@@ -8,21 +8,28 @@ use lib.Dec.{eqb, leb, ltb}
 use lib.IntN.{ℤ, pos}
 use lib.ListN.{length, getD, replicate}
 use Rattle.board.specs.Parts.{Parts}
-use Rattle.board.specs.Layout.{registersEach}
+use Rattle.board.specs.Layout.{bases, registersEach}
 use Rattle.board.specs.Numbers.{bytes}
-use Rattle.board.specs.Statuses.{bufferTooSmall, deviceNotFound, badRegisterNumber, badHandle}
+use Rattle.board.specs.Statuses.{funcNotSupported, deviceNotFound, badRegisterNumber, bufferTooSmall, generalError, badHandle}
 use Rattle.config.specs.Write.{movesWindows}
-use Rattle.image.specs.Cells.{total}
+use Rattle.access.specs.Find.{spaceNumber}
+use Rattle.access.specs.declared.place.Place.{Place}
+use Rattle.access.specs.declared.place.Place.the-variants.{At, Refused}
+use Rattle.image.specs.Cells.{slotCells, cellsBefore, total}
 use Rattle.image.specs.Image.{imageSize}
 use Rattle.reference.specs.declared.Answer.{Answer}
 use Rattle.reference.specs.declared.Call.{Call}
-use Rattle.reference.specs.declared.Call.the-variants.{Load, Reset, WriteImage, FindPciDevice, FindPciClasscode, ReadConfig, FastReadConfig, WriteConfig, ListWindow}
+use Rattle.reference.specs.declared.Call.the-variants.{Load, Reset, WriteImage, FindPciDevice, FindPciClasscode, ReadConfig, FastReadConfig, WriteConfig, ReadData, FastReadData, WriteData, BusToCpu, CpuToBus, ListWindow}
 use Rattle.reference.specs.Answers.{zeros, one}
 use Rattle.reference.specs.State.{Next, step}
-use Rattle.reference.specs.Reference.{Reference, exponentOf, imageRecords, referenceStart}
-use Rattle.reference.specs.Run.{Asked, stepOn, answers, after, referenceAnswers, referenceAfter, partsOf, start}
+use Rattle.reference.specs.Reference.{Reference, exponentOf, imageRecords, placeFor, referenceStart}
+use Rattle.reference.specs.Run.{Asked, Heard, stepOn, answers, after, referenceAnswers, referenceAfter, partsOf, start}
 
--- 1. REFUSAL. The numbers that a call can be refused with; a fast read has none, and 0 stands there.
+-- 1. REFUSAL. The numbers that a data call can be refused with, in the order of the checks.
+abbrev pub dataRefusals : List ℤ
+dataRefusals = badHandle .0 ∷ bufferTooSmall .0 ∷ generalError .0 ∷ funcNotSupported .0 ∷ []
+
+-- The numbers that a call can be refused with; a fast read has none, and 0 stands there.
 abbrev pub refusals : Call → List ℤ
 refusals Load = pos 1 ∷ pos 2 ∷ pos 3 ∷ pos 4 ∷ pos 5 ∷ pos 6 ∷ pos 7 ∷ pos 8 ∷ []
 refusals Reset = bufferTooSmall .0 ∷ []
@@ -32,6 +39,11 @@ refusals (FindPciClasscode class index) = deviceNotFound .0 ∷ []
 refusals (ReadConfig width handle register) = badHandle .0 ∷ badRegisterNumber .0 ∷ []
 refusals (FastReadConfig width handle register) = pos 0 ∷ []
 refusals (WriteConfig width handle register value) = badHandle .0 ∷ badRegisterNumber .0 ∷ []
+refusals (ReadData space width handle address) = dataRefusals
+refusals (FastReadData space width handle address) = pos 0 ∷ []
+refusals (WriteData space width handle address value) = dataRefusals
+refusals (BusToCpu handle address) = badHandle .0 ∷ []
+refusals (CpuToBus handle address) = badHandle .0 ∷ []
 refusals (ListWindow n) = deviceNotFound .0 ∷ []
 
 abbrev pub Among : ℤ → List ℤ → Type 0
@@ -48,6 +60,11 @@ Filler (FindPciClasscode class index) a = a .values ≡ zeros
 Filler (ReadConfig width handle register) a = a .values ≡ zeros
 Filler (FastReadConfig width handle register) a = a .values ≡ one (256 ^ bytes width - 1)
 Filler (WriteConfig width handle register value) a = a .values ≡ zeros
+Filler (ReadData space width handle address) a = a .values ≡ zeros
+Filler (FastReadData space width handle address) a = a .values ≡ one (256 ^ bytes width - 1)
+Filler (WriteData space width handle address value) a = a .values ≡ zeros
+Filler (BusToCpu handle address) a = a .values ≡ zeros
+Filler (CpuToBus handle address) a = a .values ≡ zeros
 Filler (ListWindow n) a = a .values ≡ zeros
 
 -- A refused call gives a stated number and the filler, and leaves every lent part and its own buffer as they were.
@@ -95,6 +112,11 @@ abbrev pub addressed : ℕ → ℕ → ℕ → ℕ → Bool
 addressed w handle register j =
     eqb (j / registersEach + 1) handle && (leb register (j % registersEach) && ltb (j % registersEach) (register + w))
 
+-- place j of the cell buffer is one of the w cells of an access
+abbrev pub accessed : ℕ → Place → ℕ → Bool
+accessed w (At at order) j = leb at j && ltb j (at + w)
+accessed w (Refused s) j = false
+
 -- document 01's list, "Runs and the book"
 unfoldable pub mayTouch : Reference → Call → List ℕ → Touch
 mayTouch b Load own = touch true every true true every (λ i. ltb i (total (exponentOf (imageRecords own)))) none
@@ -106,6 +128,12 @@ mayTouch b (ReadConfig width handle register) own = touch false none false false
 mayTouch b (FastReadConfig width handle register) own = touch false none false false none none none
 mayTouch b (WriteConfig width handle register value) own =
     touch false (addressed (bytes width) handle register) (movesWindows (bytes width) register) false none none none
+mayTouch b (ReadData space width handle address) own = touch false none false false none none none
+mayTouch b (FastReadData space width handle address) own = touch false none false false none none none
+mayTouch b (WriteData space width handle address value) own =
+    touch false none false false none (accessed (bytes width) (placeFor b (bytes width) (spaceNumber space) handle (address .0))) none
+mayTouch b (BusToCpu handle address) own = touch false none false false none none none
+mayTouch b (CpuToBus handle address) own = touch false none false false none none none
 mayTouch b (ListWindow n) own = touch false none false false none none none
 
 -- two lists have the same length, and the same wherever a touch is not allowed
@@ -131,3 +159,61 @@ Frame =
     (cells : List ℕ) (cs : List Asked) (c : Asked)
     → Framed (mayTouch (referenceAfter (referenceStart cells) cs) (c .call) (c .own)) (after (start cells) cs) (c .own)
     (stepOn (after (start cells) cs) c)
+
+-- 4. NONINTERFERENCE. The calls that are struck out: the data calls through a handle h.
+abbrev pub struckOut : ℕ → Call → Bool
+struckOut h Load = false
+struckOut h Reset = false
+struckOut h WriteImage = false
+struckOut h (FindPciDevice id index) = false
+struckOut h (FindPciClasscode class index) = false
+struckOut h (ReadConfig width handle register) = false
+struckOut h (FastReadConfig width handle register) = false
+struckOut h (WriteConfig width handle register value) = false
+struckOut h (ReadData space width handle address) = eqb handle h
+struckOut h (FastReadData space width handle address) = eqb handle h
+struckOut h (WriteData space width handle address value) = eqb handle h
+struckOut h (BusToCpu handle address) = false
+struckOut h (CpuToBus handle address) = false
+struckOut h (ListWindow n) = false
+
+-- what is left of a run, and what is heard of that
+unfoldable pub left : ℕ → List Asked → List Asked
+left h [] = []
+left h (c ∷ cs) = cond (struckOut h (c .call)) (left h cs) (c ∷ left h cs)
+
+unfoldable pub leftHeard : ℕ → List Asked → List Heard → List Heard
+leftHeard h [] rs = []
+leftHeard h (c ∷ cs) [] = []
+leftHeard h (c ∷ cs) (r ∷ rs) = cond (struckOut h (c .call)) (leftHeard h cs rs) (r ∷ leftHeard h cs rs)
+
+-- two boards that no call but the data calls through h tells apart: every part but the cells, and the cells of every other function's windows; rs are the loaded records. Bytes past
+-- the total are nobody's, as a load of a smaller board leaves there what stood there.
+pub record Unseen (h : ℕ) (rs : List (List ℕ)) (p q : Parts) : Type 0 where
+  pub header : p .header ≡ q .header
+  pub records : p .records ≡ q .records
+  pub registers : p .registers ≡ q .registers
+  pub windows : p .windows ≡ q .windows
+  pub offsets : p .cellOffsets ≡ q .cellOffsets
+  pub hooks : p .hooks ≡ q .hooks
+  pub used : p .used ≡ q .used
+  pub room : length (p .cells) ≡ length (q .cells)
+  pub cells : (i b o : ℕ) → (i + 1 ≡ h → ⊥) → i < length rs → b < bases → o < slotCells (exponentOf rs) (bases * i + b)
+      → getD (p .cells) (cellsBefore (exponentOf rs) (bases * i + b) + o) 0
+      ≡ getD (q .cells) (cellsBefore (exponentOf rs) (bases * i + b) + o) 0
+
+-- Two runs from equal cells that are equal once the data calls through h are struck out: what is heard of every other call is equal, and the boards that
+-- stand after them are not told apart.
+pub record Apart (h : ℕ) (cells : List ℕ) (cs ds : List Asked) : Type 0 where
+  pub heard : leftHeard h cs (answers (start cells) cs) ≡ leftHeard h ds (answers (start cells) ds)
+  pub unseen : Unseen h (referenceAfter (referenceStart cells) cs .records) (after (start cells) cs) (after (start cells) ds)
+
+abbrev pub NonInterference : Type 0
+NonInterference = (h : ℕ) (cells : List ℕ) (cs ds : List Asked) → left h cs ≡ left h ds → Apart h cells cs ds
+
+-- DEMAND 3, as one claim.
+pub record Demand3 : Type 0 where
+  pub refusal : Refusal
+  pub refinement : Refinement
+  pub frame : Frame
+  pub nonInterference : NonInterference

@@ -1,12 +1,12 @@
 -- The reference machine: document 01, "Runs and the book". It is fed the cell buffer's bytes at the start, then each call's arguments, and keeps no window list.
 use Prim.Native.Nat.{ℕ, zero, suc, _+_, _-_, _*_, _/_, _%_, _^_}
-use mathlib.Core.Bool.{cond, _&&_}
+use mathlib.Core.Bool.{Bool, cond, _&&_}
 use mathlib.Core.List.{List, [], _∷_, _++_}
 use lib.Dec.{eqb, leb, ltb}
 use lib.IntN.{pos}
 use lib.ListN.{length, getD, take, drop}
-use Rattle.board.specs.Numbers.{byteAt, bytes}
-use Rattle.board.specs.Layout.{recordSize, masksAt, entriesAt, entrySize}
+use Rattle.board.specs.Numbers.{byteAt, bytes, big}
+use Rattle.board.specs.Layout.{bases, recordSize, masksAt, entriesAt, entrySize, offsetAt}
 use Rattle.board.specs.Statuses.{successful, bufferTooSmall}
 use Rattle.window_list.specs.Windows.{Window, listOf}
 use Rattle.window_list.specs.Listing.{listedNumber, listedValues}
@@ -16,15 +16,24 @@ use Rattle.config.specs.Write.{written}
 use Rattle.config.specs.Search.{devices, classes, searchNumber}
 use Rattle.config.specs.declared.target.Target.{Target}
 use Rattle.config.specs.declared.target.Target.the-variants.{Function, Refused}
-use Rattle.image.specs.Cells.{total, zeroed}
+use Rattle.access.specs.Cells.{cellsAfter}
+use Rattle.access.specs.Convert.{toCpu, toBus}
+use Rattle.access.specs.Data.{readAt, fastReadAt}
+use Rattle.access.specs.Find.{spaceNumber, offers, find, statusOf}
+use Rattle.access.specs.Orders.{placed}
+use Rattle.access.specs.declared.find.Finding.{Finding}
+use Rattle.access.specs.declared.find.Finding.the-variants.{Found, BadHandle, ShortCells, NotAligned, Nothing, Contested, WidthMissing}
+use Rattle.access.specs.declared.place.Place.{Place}
+use Rattle.access.specs.declared.place.Place.the-variants.{At, Refused as NoPlace}
+use Rattle.image.specs.Cells.{cellsBefore, total, zeroed}
 use Rattle.image.specs.Image.{imageSize, countOf, recordsOf, sum, trailer}
 use Rattle.image.specs.Refusals.{Facts, imageMax, refused, firstRefusal}
 use Rattle.image.specs.Check.{facts}
 use Rattle.image.specs.declared.check.Verdict.{Verdict}
 use Rattle.reference.specs.declared.Answer.{Answer}
 use Rattle.reference.specs.declared.Call.{Call}
-use Rattle.reference.specs.declared.Call.the-variants.{Load, Reset, WriteImage, FindPciDevice, FindPciClasscode, ReadConfig, FastReadConfig, WriteConfig, ListWindow}
-use Rattle.reference.specs.Answers.{answer, zeros, ofStatus, ofVerdict, ofSearch, ofRead, ofFastRead}
+use Rattle.reference.specs.declared.Call.the-variants.{Load, Reset, WriteImage, FindPciDevice, FindPciClasscode, ReadConfig, FastReadConfig, WriteConfig, ReadData, FastReadData, WriteData, BusToCpu, CpuToBus, ListWindow}
+use Rattle.reference.specs.Answers.{answer, zeros, ofStatus, ofVerdict, ofSearch, ofRead, ofFastRead, ofToCpu, ofToBus}
 
 pub record Hook : Type 0 where
   pub handle : ℕ
@@ -46,6 +55,10 @@ pub record Reference : Type 0 where
 -- the record of the function at a place; empty where there is no function
 abbrev pub recordOf : List (List ℕ) → ℕ → List ℕ
 recordOf records i = getD records i []
+
+-- a field of the entry of base register b: length exponent, byte order, widths
+abbrev pub entryOf : List (List ℕ) → ℕ → ℕ → ℕ → ℕ
+entryOf records i b field = byteAt (recordOf records i) (entriesAt + entrySize * b + field)
 
 abbrev pub exponentOf : List (List ℕ) → ℕ → ℕ → ℕ
 exponentOf records i b = byteAt (recordOf records i) (entriesAt + entrySize * b)
@@ -101,9 +114,13 @@ windowsOf b = listOf (length (b .records)) (exponentOf (b .records)) (b .registe
 abbrev pub imageBytes : List (List ℕ) → List ℕ
 imageBytes records = joined records ++ trailer (length records) (sum (joined records))
 
--- the function that a configuration access is for; handles are 1 to the count
+-- handles are 1 to the count
+abbrev pub isHandleOf : Reference → ℕ → Bool
+isHandleOf b handle = leb 1 handle && leb handle (length (b .records))
+
+-- the function that a configuration access is for
 abbrev pub targetOf : Reference → ℕ → ℕ → ℕ → Target
-targetOf b w handle register = target (leb 1 handle && leb handle (length (b .records))) w handle register
+targetOf b w handle register = target (isHandleOf b handle) w handle register
 
 -- the registers after w bytes of a value are written at a register of the function at place i, little-endian: each addressed byte through its own mask
 abbrev pub registersAfter : Reference → ℕ → ℕ → ℕ → ℕ → ℕ → ℕ → ℕ
@@ -114,6 +131,34 @@ registersAfter b w i register value j at =
 
 abbrev pub withRegistersOf : (ℕ → ℕ → ℕ) → Reference → Reference
 withRegistersOf r b = record { records = b .records; registers = r; cells = b .cells; chains = b .chains; used = b .used }
+
+-- the window for a handle, in the list worked out afresh
+abbrev pub findFor : Reference → ℕ → ℕ → ℕ → ℕ → Finding
+findFor b w space handle address =
+    find (isHandleOf b handle) (ltb (length (b .cells)) (total (exponentOf (b .records))))
+    (λ base. offers w (entryOf (b .records) (handle - 1) base 2)) (windowsOf b) space w handle address
+
+-- the first cell of an access, and the byte order: the cells of a window follow those of all windows before it
+unfoldable pub placeIn : Reference → ℕ → ℕ → Finding → Place
+placeIn b w handle (Found base distance remaining) =
+    let order = entryOf (b .records) (handle - 1) base 1 in
+    At (cellsBefore (exponentOf (b .records)) (bases * (handle - 1) + base) + placed order w distance) order
+placeIn b w handle BadHandle = NoPlace (statusOf BadHandle)
+placeIn b w handle ShortCells = NoPlace (statusOf ShortCells)
+placeIn b w handle NotAligned = NoPlace (statusOf NotAligned)
+placeIn b w handle Nothing = NoPlace (statusOf Nothing)
+placeIn b w handle Contested = NoPlace (statusOf Contested)
+placeIn b w handle WidthMissing = NoPlace (statusOf WidthMissing)
+
+abbrev pub placeFor : Reference → ℕ → ℕ → ℕ → ℕ → Place
+placeFor b w space handle address = placeIn b w handle (findFor b w space handle address)
+
+abbrev pub withCellsOf : List ℕ → Reference → Reference
+withCellsOf cells b = record { records = b .records; registers = b .registers; cells = cells; chains = b .chains; used = b .used }
+
+-- what the CPU sees of a function's bus addresses is above them by its offset
+abbrev pub offsetOf : List (List ℕ) → ℕ → ℕ
+offsetOf records i = big 4 (byteAt (recordOf records i)) offsetAt
 
 -- the answer, the next state, and the call's own buffer
 pub record Told : Type 0 where
@@ -127,6 +172,10 @@ told a b own = record { answer = a; reference = b; own = own }
 abbrev pub writeOf : Reference → ℕ → ℕ → ℕ → List ℕ → Target → Told
 writeOf b w register value own (Function i) = told (ofStatus successful) (withRegistersOf (registersAfter b w i register value) b) own
 writeOf b w register value own (Refused s) = told (ofStatus s) b own
+
+abbrev pub writeDataOf : Reference → ℕ → ℕ → List ℕ → Place → Told
+writeDataOf b w value own (At at order) = told (ofStatus successful) (withCellsOf (cellsAfter order w at value (b .cells)) b) own
+writeDataOf b w value own (NoPlace s) = told (ofStatus s) b own
 
 unfoldable pub referenceStep : Reference → Call → List ℕ → Told
 referenceStep b Load own =
@@ -150,4 +199,14 @@ referenceStep b (FastReadConfig width handle register) own =
     told (ofFastRead (fastReadOf (b .registers) (bytes width) register (targetOf b (bytes width) handle register))) b own
 referenceStep b (WriteConfig width handle register value) own =
     writeOf b (bytes width) register value own (targetOf b (bytes width) handle register)
+referenceStep b (ReadData space width handle address) own =
+    told (ofRead (readAt (bytes width) (b .cells) (placeFor b (bytes width) (spaceNumber space) handle (address .0)))) b own
+referenceStep b (FastReadData space width handle address) own =
+    told (ofFastRead (fastReadAt (bytes width) (b .cells) (placeFor b (bytes width) (spaceNumber space) handle (address .0)))) b own
+referenceStep b (WriteData space width handle address value) own =
+    writeDataOf b (bytes width) value own (placeFor b (bytes width) (spaceNumber space) handle (address .0))
+referenceStep b (BusToCpu handle address) own =
+    told (ofToCpu (toCpu (isHandleOf b handle) (offsetOf (b .records) (handle - 1)) address)) b own
+referenceStep b (CpuToBus handle address) own =
+    told (ofToBus (toBus (isHandleOf b handle) (offsetOf (b .records) (handle - 1)) address)) b own
 referenceStep b (ListWindow n) own = told (answer (listedNumber (windowsOf b) n) (listedValues (windowsOf b) n)) b own

@@ -2,7 +2,7 @@
 use Prim.Native.Nat.{ℕ}
 use mathlib.Core.List.{List}
 use lib.IntN.{pos}
-use Rattle.board.specs.Parts.{Parts, withRegisters}
+use Rattle.board.specs.Parts.{Parts, withRegisters, withCells}
 use Rattle.board.specs.Handles.{functionCount}
 use Rattle.board.specs.Layout.{registerByte}
 use Rattle.board.specs.Numbers.{bytes}
@@ -11,12 +11,15 @@ use Rattle.window_list.specs.Listing.{listing, numberOf, valuesOf}
 use Rattle.config.specs.Read.{readConfig, fastReadConfig}
 use Rattle.config.specs.Search.{devices, classes, searched, foundNumber}
 use Rattle.config.specs.Write.{writeConfig}
+use Rattle.access.specs.Convert.{busToCpu, cpuToBus}
+use Rattle.access.specs.Data.{readData, fastReadData, writeData}
+use Rattle.access.specs.Find.{spaceNumber}
 use Rattle.image.specs.Load.{load, reset}
 use Rattle.image.specs.Write.{write}
 use Rattle.reference.specs.declared.Answer.{Answer}
 use Rattle.reference.specs.declared.Call.{Call}
-use Rattle.reference.specs.declared.Call.the-variants.{Load, Reset, WriteImage, FindPciDevice, FindPciClasscode, ReadConfig, FastReadConfig, WriteConfig, ListWindow}
-use Rattle.reference.specs.Answers.{answer, zeros, ofStatus, ofVerdict, ofSearch, ofRead, ofFastRead}
+use Rattle.reference.specs.declared.Call.the-variants.{Load, Reset, WriteImage, FindPciDevice, FindPciClasscode, ReadConfig, FastReadConfig, WriteConfig, ReadData, FastReadData, WriteData, BusToCpu, CpuToBus, ListWindow}
+use Rattle.reference.specs.Answers.{answer, zeros, ofStatus, ofVerdict, ofSearch, ofRead, ofFastRead, ofToCpu, ofToBus}
 
 -- the answer, the lent parts, and the call's own buffer
 pub record Next : Type 0 where
@@ -44,4 +47,15 @@ step p (FastReadConfig width handle register) own =
 step p (WriteConfig width handle register value) own =
     let w = writeConfig (bytes width) (p .header) (p .records) (p .registers) (p .windows) handle register value in
     next (ofStatus (w .status)) (withRegisters (w .registers) (w .windows) p) own
+step p (ReadData space width handle address) own =
+    next (ofRead (readData (bytes width) (p .header) (p .records) (p .windows) (p .cellOffsets) (p .cells) (spaceNumber space) handle (address .0))) p own
+step p (FastReadData space width handle address) own =
+    next
+    (ofFastRead (fastReadData (bytes width) (p .header) (p .records) (p .windows) (p .cellOffsets) (p .cells) (spaceNumber space) handle (address .0)))
+    p own
+step p (WriteData space width handle address value) own =
+    let w = writeData (bytes width) (p .header) (p .records) (p .windows) (p .cellOffsets) (p .cells) (spaceNumber space) handle (address .0) value in
+    next (ofStatus (w .status)) (withCells (w .cells) p) own
+step p (BusToCpu handle address) own = next (ofToCpu (busToCpu (p .header) (p .records) handle address)) p own
+step p (CpuToBus handle address) own = next (ofToBus (cpuToBus (p .header) (p .records) handle address)) p own
 step p (ListWindow n) own = let l = listing (unpacked (p .windows)) n in next (answer (numberOf l) (valuesOf l)) p own

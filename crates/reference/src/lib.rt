@@ -1,4 +1,7 @@
 // The calls on a board, and their answer. No functions: the reference machine and the claims stand in specs/ and proofs/.
+use access::find::Space;
+use board::address::BusAddress;
+use board::address::CpuAddress;
 use board::number::Width;
 
 // A call with its arguments; the bytes that it reads or fills are lent beside it.
@@ -29,6 +32,33 @@ pub enum Call {
         handle: u32,
         register: u8,
         value: u32,
+    },
+    ReadData {
+        space: Space,
+        width: Width,
+        handle: u32,
+        address: BusAddress,
+    },
+    FastReadData {
+        space: Space,
+        width: Width,
+        handle: u32,
+        address: BusAddress,
+    },
+    WriteData {
+        space: Space,
+        width: Width,
+        handle: u32,
+        address: BusAddress,
+        value: u32,
+    },
+    BusToCpu {
+        handle: u32,
+        address: BusAddress,
+    },
+    CpuToBus {
+        handle: u32,
+        address: CpuAddress,
     },
     ListWindow {
         n: u32,

@@ -1,34 +1,29 @@
 -- The listing answers for window n of the list, in refusals too.
 use Prim.Native.Nat.{ℕ, zero, suc, _+_, _/_, _%_, _^_, _≤_, _<_}
-use native.Mathlib.Numerals.{add-one}
 use native.Mathlib.Omega.{arith}
 use lib.Dec.{eqb}
-use borrow.Author.Tests.{eq-eqb, ne-eqb}
 use mathlib.Core.Bool.{Bool, true, false, cond}
 use mathlib.Core.Path.{_≡_, refl, ap, _∙_}
 use mathlib.Core.List.{List, [], _∷_}
-use lib.ListN.{length, getD, drop, drop-of-length-le}
-use lib.Seq.{drop-cons}
+use lib.ListN.{length, getD, drop}
 use Rattle.board.specs.Statuses.{deviceNotFound}
 use Rattle.window_list.specs.declared.listing.Listing.{Listing}
 use Rattle.window_list.specs.declared.listing.Listing.the-variants.{Found, Refused}
 use Rattle.window_list.specs.Windows.{Window}
 use Rattle.window_list.specs.Kept.{unpack, unpacked}
 use Rattle.window_list.specs.Listing.{inSpace, found, listing, numberOf, valuesOf, listedNumber, listedValues, Lists}
+use Rattle.window_list.proofs.Unpacked.{unpacked-none, unpacked-one, unpacked-end}
 
--- counting the windows of a kept list from place j: none at a number that is no window, else one and those after it
+-- counting the windows of a kept list from place j on
 pub counted-none : (l : List ℕ) (j : ℕ) → j < length l → getD l j 0 / 2 % 2 ^ 17 ≡ 0 → length (unpacked (drop j l)) ≡ 0
-unfolding unpacked
-counted-none l j h z = rw (drop-cons l j 0 h, eq-eqb (getD l j 0 / 2 % 2 ^ 17) 0 z)
+counted-none l j h z = ap length (unpacked-none l j h z)
 
 pub counted-one : (l : List ℕ) (j : ℕ) → j < length l → (getD l j 0 / 2 % 2 ^ 17 ≡ 0 → ⊥)
     → length (unpacked (drop j l)) ≡ suc (length (unpacked (drop (j + 1) l)))
-unfolding unpacked
-counted-one l j h n = rw (drop-cons l j 0 h, ne-eqb (getD l j 0 / 2 % 2 ^ 17) 0 n, add-one)
+counted-one l j h n = ap length (unpacked-one l j h n)
 
 pub counted-end : (l : List ℕ) (j : ℕ) → length l ≤ j → length (unpacked (drop j l)) ≡ 0
-unfolding unpacked
-counted-end l j h = rw (drop-of-length-le l h)
+counted-end l j h = ap length (unpacked-end l j h)
 
 pub number-is : (l : List Window) (n : ℕ) → numberOf (listing l n) ≡ listedNumber l n
 unfolding listing listedNumber

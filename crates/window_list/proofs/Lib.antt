@@ -7,4 +7,5 @@ pub mod Packed
 pub mod Insert
 pub mod Sweep
 pub mod KeptArray
+pub mod Unpacked
 pub mod Answers

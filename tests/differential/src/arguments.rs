@@ -1,8 +1,9 @@
-//! Arguments of searches and configuration calls, chosen with regard to the board so that
-//! the cases that matter come up often.
+//! Arguments of searches and configuration calls, and how much to lend, chosen with regard
+//! to the board so that the cases that matter come up often.
 
+use crate::access::Access;
 use crate::boards::FIRST_BASE;
-use crate::calls::{Access, Call};
+use crate::calls::Call;
 use crate::parts::{Parts, REGISTERS};
 use crate::random::Random;
 use second::{BASES, FUNCTIONS, RECORD_LENGTH};
@@ -29,6 +30,18 @@ pub fn configuration(random: &mut Random, parts: &Parts) -> Call {
         1 => Call::FastReadConfig(access),
         _ => Call::WriteConfig { access, value: value(random, parts, access) },
     }
+}
+
+/// How much to lend: all, just enough for so many cells, one less, or any part.
+pub fn lent(random: &mut Random, whole: usize, cells: usize) -> usize {
+    let any = random.below(whole);
+    let lent = match random.below(12) {
+        0 => cells,
+        1 => cells.saturating_sub(1),
+        2 => any,
+        _ => whole,
+    };
+    lent.min(whole)
 }
 
 /// As many as can match, or numbers that must not be cut to so few.
@@ -108,7 +121,7 @@ fn base_of_window(random: &mut Random, parts: &Parts) -> Access {
 }
 
 /// Mostly one that can be asked.
-fn width(random: &mut Random) -> u32 {
+pub fn width(random: &mut Random) -> u32 {
     let any = random.long();
     match random.one_in(20) {
         true => random.pick(&[0, 3, 5, 6, 8, 16, 0x101, 0x102, 0x104, 0x1_0001, u32::MAX, any]),
@@ -117,7 +130,7 @@ fn width(random: &mut Random) -> u32 {
 }
 
 /// Mostly a good handle; else one just outside, or one that is good only if it is cut.
-fn handle(random: &mut Random, parts: &Parts) -> u32 {
+pub fn handle(random: &mut Random, parts: &Parts) -> u32 {
     let good = random.within(1..=parts.functions().max(1)) as u32;
     let (count, any) = (parts.header[0], random.long());
     match random.below(6) {

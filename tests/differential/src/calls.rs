@@ -1,5 +1,6 @@
 //! The calls that both implementations perform, and what a call hands back.
 
+use crate::access::{Access, DataAccess};
 use crate::parts::first_difference;
 use std::fmt;
 
@@ -37,22 +38,20 @@ pub enum Call {
         access: Access,
         value: u32,
     },
-}
-
-/// What a configuration call names. A width other than 1, 2 or 4 can be asked from C
-/// alone.
-#[derive(Clone, Copy)]
-pub struct Access {
-    pub width: u32,
-    pub handle: u32,
-    pub register: u8,
-}
-
-impl fmt::Display for Access {
-    fn fmt(&self, f: &mut fmt::Formatter) -> fmt::Result {
-        let Access { width, handle, register } = self;
-        write!(f, "width {width}, handle {handle:#x}, register {register:#x}")
-    }
+    ReadData(DataAccess),
+    FastReadData(DataAccess),
+    WriteData {
+        access: DataAccess,
+        value: u32,
+    },
+    BusToCpu {
+        handle: u32,
+        address: u32,
+    },
+    CpuToBus {
+        handle: u32,
+        address: u32,
+    },
 }
 
 impl Call {
@@ -68,6 +67,11 @@ impl Call {
             Call::ReadConfig(_) => "read_config",
             Call::FastReadConfig(_) => "fast_read_config",
             Call::WriteConfig { .. } => "write_config",
+            Call::ReadData(_) => "read_data",
+            Call::FastReadData(_) => "fast_read_data",
+            Call::WriteData { .. } => "write_data",
+            Call::BusToCpu { .. } => "bus_to_cpu",
+            Call::CpuToBus { .. } => "cpu_to_bus",
         }
     }
 }
@@ -93,6 +97,11 @@ impl fmt::Display for Call {
                 write!(f, "{name}, {access}")
             }
             Call::WriteConfig { access, value } => write!(f, "{name}, {access}, value {value:#x}"),
+            Call::ReadData(access) | Call::FastReadData(access) => write!(f, "{name}, {access}"),
+            Call::WriteData { access, value } => write!(f, "{name}, {access}, value {value:#x}"),
+            Call::BusToCpu { handle, address } | Call::CpuToBus { handle, address } => {
+                write!(f, "{name}, handle {handle:#x}, address {address:#x}")
+            }
         }
     }
 }
@@ -117,7 +126,7 @@ impl Answer {
         Answer::with_value(number.into(), place)
     }
 
-    /// A plain read's answer: the number and the value.
+    /// A plain read's or a conversion's answer: the number and the value.
     pub fn read(number: i32, value: u32) -> Self {
         Answer::with_value(number.into(), value)
     }

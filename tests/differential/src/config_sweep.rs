@@ -1,8 +1,9 @@
 //! Configuration calls and searches on two boards: every register at every width, and
 //! every ID and class one bit off those of the board.
 
+use crate::access::Access;
 use crate::boards::{clear_base, ENTRIES, FIXED, MASKS};
-use crate::calls::{Access, Call};
+use crate::calls::Call;
 use crate::pair::Pair;
 use crate::parts::{Parts, REGISTERS};
 use crate::random::Random;

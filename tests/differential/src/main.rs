@@ -1,12 +1,19 @@
 //! `differential RUNS [SEED] [--tally]`: the proved code against `second`, on sweeps and random runs.
 #![deny(unsafe_op_in_unsafe_fn)]
 
+mod access;
 mod alter;
 mod arguments;
 mod boards;
 mod calls;
 mod config_sweep;
 mod damage;
+mod data_arguments;
+mod data_case;
+mod data_met;
+mod data_model;
+mod data_sweep;
+mod exports;
 mod guards;
 mod met;
 mod model;
@@ -56,6 +63,7 @@ fn compared(runs: u64, seed: u64, tally: &mut Tally) -> Result<(), String> {
     let mut swept = Tally::default();
     sweep::sweep(&mut swept)?;
     config_sweep::sweep(&mut swept)?;
+    data_sweep::sweep(&mut swept)?;
     tally.calls = swept.calls;
     for run in 0..runs {
         runs::run(seed.wrapping_add(run), tally)?;

@@ -1,7 +1,9 @@
-//! What a call met beside the number of its answer.
+//! What a call met beside the number of its answer; of data calls and conversions, see
+//! data_met.rs.
 
+use crate::access::Access;
 use crate::boards::{FIRST_BASE, MASKS};
-use crate::calls::{Access, Answer, Call};
+use crate::calls::{Answer, Call};
 use crate::parts::{Parts, REGISTERS};
 use second::{KeptWindow, RECORD_LENGTH};
 use std::ops::Range;

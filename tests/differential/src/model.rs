@@ -1,6 +1,8 @@
 //! The second implementation behind the same calls, on the same lent parts.
 
-use crate::calls::{Access, Answer, Call};
+use crate::access::Access;
+use crate::calls::{Answer, Call};
+use crate::data_model;
 use crate::parts::Parts;
 use second::{moves_windows, Board, Width, GENERAL_ERROR};
 
@@ -55,6 +57,13 @@ impl Second {
             Call::ReadConfig(access) => read(board, *access),
             Call::FastReadConfig(access) => fast_read(board, *access),
             Call::WriteConfig { access, value } => write(board, *access, *value),
+            Call::ReadData(access) => data_model::read(board, &self.cells, *access),
+            Call::FastReadData(access) => data_model::fast_read(board, &self.cells, *access),
+            Call::WriteData { access, value } => {
+                data_model::write(board, &mut self.cells, *access, *value)
+            }
+            Call::BusToCpu { handle, address } => converted(board.bus_to_cpu(*handle, *address)),
+            Call::CpuToBus { handle, address } => converted(board.cpu_to_bus(*handle, *address)),
         }
     }
 
@@ -64,16 +73,16 @@ impl Second {
     fn take_write(&mut self, board: &Board, access: Access) {
         let written = Parts::of(board);
         self.parts.registers = written.registers;
-        if width(access).is_some_and(|width| moves_windows(access.register, width)) {
+        if width(access.width).is_some_and(|width| moves_windows(access.register, width)) {
             self.parts.windows = written.windows;
         }
         assert!(*board == self.parts.board(), "second changes more than a write may: {access}");
     }
 }
 
-/// The width of an access, where it is one that `second` can be asked.
-fn width(access: Access) -> Option<Width> {
-    match access.width {
+/// The width of so many bytes, where it is one that `second` can be asked.
+pub fn width(bytes: u32) -> Option<Width> {
+    match bytes {
         1 => Some(Width::Byte),
         2 => Some(Width::Word),
         4 => Some(Width::Long),
@@ -84,7 +93,7 @@ fn width(access: Access) -> Option<Width> {
 // The calls for C refuse every other width before all else; document 01 has no such call.
 
 fn read(board: &Board, access: Access) -> Answer {
-    let Some(width) = width(access) else {
+    let Some(width) = width(access.width) else {
         return Answer::read(GENERAL_ERROR, 0);
     };
     let (number, value) = board.read_config(access.handle, access.register, width);
@@ -92,7 +101,7 @@ fn read(board: &Board, access: Access) -> Answer {
 }
 
 fn fast_read(board: &Board, access: Access) -> Answer {
-    let Some(width) = width(access) else {
+    let Some(width) = width(access.width) else {
         return Answer::fast_read(u32::MAX, 1);
     };
     let (value, fault) = board.fast_read_config(access.handle, access.register, width);
@@ -100,10 +109,14 @@ fn fast_read(board: &Board, access: Access) -> Answer {
 }
 
 fn write(board: &mut Board, access: Access, value: u32) -> Answer {
-    let Some(width) = width(access) else {
+    let Some(width) = width(access.width) else {
         return Answer::number(GENERAL_ERROR.into());
     };
     Answer::number(board.write_config(access.handle, access.register, width, value).into())
+}
+
+fn converted((number, address): (i32, u32)) -> Answer {
+    Answer::read(number, address)
 }
 
 fn listed(board: &Board, n: u32) -> Answer {

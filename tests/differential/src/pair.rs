@@ -31,7 +31,7 @@ impl Pair {
     pub fn call(&mut self, call: &Call, tally: &mut Tally) -> Result<Answer, String> {
         let before = self.second.parts.clone();
         let expected = self.second.perform(call);
-        tally.count(call, &expected, &before, &self.second.parts);
+        tally.count(call, &expected, &before, &self.second);
         let answer = self.proved.perform(call)?;
         let difference = answer
             .first_difference(&expected)

@@ -74,6 +74,13 @@ impl Parts {
         windows.take_while(|window| window.length != 0).collect()
     }
 
+    /// The kept windows past the end of the list, which are in no list.
+    pub fn past_the_list(&self) -> Vec<KeptWindow> {
+        let windows = self.windows.iter().map(|&number| unpacked(number));
+        let past = windows.skip_while(|window| window.length != 0);
+        past.filter(|window| window.length != 0).collect()
+    }
+
     /// The list that count, records and registers give, whatever is kept.
     pub fn fresh_windows(&self) -> Windows {
         let mut board = self.board();

@@ -1,82 +1,10 @@
 //! The proved code behind its C functions. This is the only unsafe code of the tests.
 
-use crate::calls::{Access, Answer, Call};
+use crate::access::{Access, DataAccess};
+use crate::calls::{Answer, Call};
+use crate::exports::*;
 use crate::guards::{Guarded, GuardedBytes};
 use crate::parts::*;
-
-extern "C" {
-    fn bios_check_image(image: *const u8, length: usize, room: usize, place: *mut u32) -> u32;
-    fn bios_load(
-        image: *const u8,
-        image_length: usize,
-        header: *mut Header,
-        records: *mut Records,
-        registers: *mut Registers,
-        windows: *mut Windows,
-        cell_offsets: *mut CellOffsets,
-        hooks: *mut Hooks,
-        used: *mut UsedMarks,
-        cells: *mut u8,
-        cells_length: usize,
-        place: *mut u32,
-    ) -> u32;
-    fn bios_reset(
-        header: *const Header,
-        records: *const Records,
-        registers: *mut Registers,
-        windows: *mut Windows,
-        cell_offsets: *const CellOffsets,
-        hooks: *mut Hooks,
-        used: *mut UsedMarks,
-        cells: *mut u8,
-        cells_length: usize,
-    ) -> i32;
-    fn bios_write_image(
-        header: *const Header,
-        records: *const Records,
-        out: *mut u8,
-        out_length: usize,
-    ) -> u32;
-    fn bios_list_window(windows: *const Windows, n: u32, values: *mut [u64; 6]) -> i32;
-    fn bios_find_pci_device(
-        header: *const Header,
-        registers: *const Registers,
-        id: u32,
-        index: u32,
-    ) -> i32;
-    fn bios_find_pci_classcode(
-        header: *const Header,
-        registers: *const Registers,
-        class_code: u32,
-        index: u32,
-    ) -> i32;
-    fn bios_read_config(
-        header: *const Header,
-        registers: *const Registers,
-        width: u32,
-        handle: u32,
-        register: u8,
-        value: *mut u32,
-    ) -> i32;
-    fn bios_fast_read_config(
-        header: *const Header,
-        registers: *const Registers,
-        width: u32,
-        handle: u32,
-        register: u8,
-        fault: *mut u32,
-    ) -> u32;
-    fn bios_write_config(
-        header: *const Header,
-        records: *const Records,
-        registers: *mut Registers,
-        windows: *mut Windows,
-        width: u32,
-        handle: u32,
-        register: u8,
-        value: u32,
-    ) -> i32;
-}
 
 /// What a value handed back holds before the call.
 const UNSET: u32 = 0xDEAD_BEEF;
@@ -141,16 +69,24 @@ impl Proved {
             Call::ReadConfig(access) => self.read_config(*access)?,
             Call::FastReadConfig(access) => self.fast_read_config(*access)?,
             Call::WriteConfig { access, value } => self.write_config(*access, *value),
+            Call::ReadData(access) => self.read_data(*access)?,
+            Call::FastReadData(access) => self.fast_read_data(*access)?,
+            Call::WriteData { access, value } => self.write_data(*access, *value),
+            Call::BusToCpu { handle, address } => self.bus_to_cpu(*handle, *address)?,
+            Call::CpuToBus { handle, address } => self.cpu_to_bus(*handle, *address)?,
         };
-        let intact = self.header.intact()
+        kept(self.intact(), "lent parts or cells").map(|()| answer)
+    }
+
+    fn intact(&self) -> bool {
+        self.header.intact()
             && self.records.intact()
             && self.registers.intact()
             && self.windows.intact()
             && self.cell_offsets.intact()
             && self.hooks.intact()
             && self.used.intact()
-            && self.cells.intact();
-        kept(intact, "lent parts or cells").map(|()| answer)
+            && self.cells.intact()
     }
 
     fn load(&mut self, image: &[u8], lent: usize) -> Result<Answer, String> {
@@ -272,6 +208,93 @@ impl Proved {
             )
         };
         Answer::number(number.into())
+    }
+
+    fn read_data(&mut self, access: DataAccess) -> Result<Answer, String> {
+        let mut value = Guarded::new(UNSET);
+        let cells = &mut self.cells.inside_mut()[..access.lent];
+        // SAFETY: as in `load`.
+        let number = unsafe {
+            bios_read_data(
+                &raw mut self.header.value,
+                &raw mut self.records.value,
+                &raw mut self.windows.value,
+                &raw mut self.cell_offsets.value,
+                cells.as_mut_ptr(),
+                cells.len(),
+                access.io,
+                access.width,
+                access.handle,
+                access.address,
+                &raw mut value.value,
+            )
+        };
+        kept(value.intact(), "value")?;
+        Ok(Answer::read(number, value.value))
+    }
+
+    fn fast_read_data(&mut self, access: DataAccess) -> Result<Answer, String> {
+        let mut fault = Guarded::new(UNSET);
+        let cells = &mut self.cells.inside_mut()[..access.lent];
+        // SAFETY: as in `load`.
+        let value = unsafe {
+            bios_fast_read_data(
+                &raw mut self.header.value,
+                &raw mut self.records.value,
+                &raw mut self.windows.value,
+                &raw mut self.cell_offsets.value,
+                cells.as_mut_ptr(),
+                cells.len(),
+                access.io,
+                access.width,
+                access.handle,
+                access.address,
+                &raw mut fault.value,
+            )
+        };
+        kept(fault.intact(), "fault flag")?;
+        Ok(Answer::fast_read(value, fault.value))
+    }
+
+    fn write_data(&mut self, access: DataAccess, value: u32) -> Answer {
+        let cells = &mut self.cells.inside_mut()[..access.lent];
+        // SAFETY: as in `load`.
+        let number = unsafe {
+            bios_write_data(
+                &raw mut self.header.value,
+                &raw mut self.records.value,
+                &raw mut self.windows.value,
+                &raw mut self.cell_offsets.value,
+                cells.as_mut_ptr(),
+                cells.len(),
+                access.io,
+                access.width,
+                access.handle,
+                access.address,
+                value,
+            )
+        };
+        Answer::number(number.into())
+    }
+
+    fn bus_to_cpu(&mut self, handle: u32, address: u32) -> Result<Answer, String> {
+        let (header, records) = (&raw mut self.header.value, &raw mut self.records.value);
+        let mut cpu = Guarded::new(UNSET);
+        // SAFETY: as in `load`.
+        let number =
+            unsafe { bios_bus_to_cpu(header, records, handle, address, &raw mut cpu.value) };
+        kept(cpu.intact(), "CPU address")?;
+        Ok(Answer::read(number, cpu.value))
+    }
+
+    fn cpu_to_bus(&mut self, handle: u32, address: u32) -> Result<Answer, String> {
+        let (header, records) = (&raw mut self.header.value, &raw mut self.records.value);
+        let mut bus = Guarded::new(UNSET);
+        // SAFETY: as in `load`.
+        let number =
+            unsafe { bios_cpu_to_bus(header, records, handle, address, &raw mut bus.value) };
+        kept(bus.intact(), "bus address")?;
+        Ok(Answer::read(number, bus.value))
     }
 
     /// Gives the parts other contents, as a caller may.

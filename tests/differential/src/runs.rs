@@ -1,10 +1,11 @@
 //! One seeded run: random calls on one board and one cell buffer, compared after each.
 
 use crate::alter::{alter, use_board};
-use crate::arguments::{configuration, search};
+use crate::arguments::{configuration, lent, search};
 use crate::boards::RandomBoard;
 use crate::calls::Call;
 use crate::damage::damaged;
+use crate::data_arguments::{conversion, data};
 use crate::pair::Pair;
 use crate::parts::Parts;
 use crate::random::Random;
@@ -24,7 +25,7 @@ struct Run<'a> {
 /// Performs the run of a seed; a difference is told with the call that made it.
 pub fn run(seed: u64, tally: &mut Tally) -> Result<(), String> {
     let mut run = Run::new(seed, tally);
-    for _ in 0..run.random.within(15..=75) {
+    for _ in 0..run.random.within(15..=95) {
         run.step().map_err(|difference| format!("seed {seed}, {difference}"))?;
     }
     Ok(())
@@ -40,21 +41,23 @@ impl<'a> Run<'a> {
     }
 
     fn step(&mut self) -> Result<(), String> {
-        match self.random.below(30) {
+        match self.random.below(44) {
             0..=5 => self.load(),
             6..=8 => self.reset(),
             9..=11 => self.write_image(),
             12 => self.list_all(),
             13 => self.list_some(),
             14 | 15 => self.check_image(),
-            16 => self.change_cells(),
-            17 => self.change_parts(use_board),
-            18 | 19 => {
+            16 | 17 => self.change_cells(),
+            18 => self.change_parts(use_board),
+            19..=21 => {
                 let cells = self.pair.cells().len();
                 self.change_parts(|random, parts| alter(random, parts, cells))
             }
-            20..=25 => self.several(configuration),
-            _ => self.several(search),
+            22..=27 => self.several(|random, pair| configuration(random, pair.parts())),
+            28..=31 => self.several(|random, pair| search(random, pair.parts())),
+            32..=42 => self.several(data),
+            _ => self.several(conversion),
         }
     }
 
@@ -73,10 +76,10 @@ impl<'a> Run<'a> {
 
     /// Calls of one kind in a row: what one leaves is the next one's board. On an empty
     /// board there is not much to ask.
-    fn several(&mut self, choose: fn(&mut Random, &Parts) -> Call) -> Result<(), String> {
+    fn several(&mut self, choose: fn(&mut Random, &Pair) -> Call) -> Result<(), String> {
         let most = if self.pair.parts().functions() == 0 { 1 } else { 6 };
         for _ in 0..self.random.within(1..=most) {
-            let call = choose(&mut self.random, self.pair.parts());
+            let call = choose(&mut self.random, &self.pair);
             self.call(call)?;
         }
         Ok(())
@@ -85,13 +88,13 @@ impl<'a> Run<'a> {
     fn load(&mut self) -> Result<(), String> {
         let (image, cells) = self.image();
         let whole = self.pair.cells().len();
-        let lent = self.lent(whole, cells);
+        let lent = lent(&mut self.random, whole, cells);
         self.call(Call::Load { image, lent })
     }
 
     fn reset(&mut self) -> Result<(), String> {
         let total = *self.pair.parts().cell_offsets.last().unwrap_or(&0);
-        let lent = self.lent(self.pair.cells().len(), total as usize);
+        let lent = lent(&mut self.random, self.pair.cells().len(), total as usize);
         self.call(Call::Reset { lent })
     }
 
@@ -123,12 +126,12 @@ impl<'a> Run<'a> {
         let any = self.random.below(70_000);
         let room = match self.random.one_in(2) {
             true => self.random.pick(&[0, 65_535, 65_536, 65_537, 1 << 32, usize::MAX, any]),
-            false => self.lent(usize::MAX, cells),
+            false => lent(&mut self.random, usize::MAX, cells),
         };
         self.call(Call::CheckImage { image, room })
     }
 
-    /// Writes cells as data calls do, and others too.
+    /// Gives all cells other contents: data writes alone would leave most of them 0.
     fn change_cells(&mut self) -> Result<(), String> {
         self.pair.change_cells(|cells| self.random.fill(cells));
         Ok(())
@@ -152,18 +155,6 @@ impl<'a> Run<'a> {
             }
         };
         (image, board.cells())
-    }
-
-    /// How much to lend: all, just enough for so many cells, one less, or any part.
-    fn lent(&mut self, whole: usize, cells: usize) -> usize {
-        let any = self.random.below(whole);
-        let lent = match self.random.below(12) {
-            0 => cells,
-            1 => cells.saturating_sub(1),
-            2 => any,
-            _ => whole,
-        };
-        lent.min(whole)
     }
 
     /// The length of the image that the writer writes.

@@ -95,7 +95,7 @@ impl Board {
         }
         let record = &self.records[place];
         let base = window.base as usize;
-        if base >= BASES || widths(record, base) & width.offer_bit() == 0 {
+        if widths(record, base) & width.offer_bit() == 0 {
             return Err(FUNC_NOT_SUPPORTED);
         }
         Ok(Access {

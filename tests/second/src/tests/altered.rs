@@ -19,9 +19,13 @@ fn altered_counts_and_lists() {
     board.list[1].length = 0;
     assert_eq!(listed(&board).len(), 1);
     assert_eq!(board.read_data(&cells, Io, 2, 0x100, Byte), (-8, 0));
+    // A window of a base register that no function has is passed over.
     board.list[0] = KeptWindow { length: u32::MAX, base: 6, ..board.list[0] };
-    assert_eq!(board.read_data(&cells, Memory, 1, u32::MAX, Byte), (-2, 0));
-    board.list[0].base = 0;
+    assert_eq!(board.read_data(&cells, Memory, 1, u32::MAX, Byte), (-8, 0));
+    board.list[0].contested = true;
+    board.list[1] = KeptWindow { base: 0, contested: false, ..board.list[0] };
+    assert_eq!(board.read_data(&cells, Memory, 1, 0x8000_0400, Byte), (0, 0));
+    board.list[0] = board.list[1];
     assert_eq!(board.read_data(&cells, Memory, 1, u32::MAX, Byte), (-7, 0));
     assert_eq!(board.read_data(&cells, Memory, 1, 0x8000_0400, Byte), (0, 0));
     board.list[0].contested = true;

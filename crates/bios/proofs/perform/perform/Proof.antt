@@ -1,7 +1,7 @@
 -- `perform`: each arm by the contract of its call.
 use denote.Ref.{now}
 use Rattle.bios.proofs.Found.{found-small}
-use Rattle.bios.proofs.Arms.{arm-load, arm-reset, arm-write, arm-search, device-step, class-step, arm-read, arm-fast-read, arm-write-config, arm-list}
+use Rattle.bios.proofs.Arms.{arm-load, arm-reset, arm-write, arm-search, device-step, class-step, arm-read, arm-fast-read, arm-write-config, arm-read-data, arm-fast-read-data, arm-write-data, arm-bus-to-cpu, arm-cpu-to-bus, arm-list}
 use borrow.Author.Needs.{needs}
 use Rattle.bios.proofs.perform.perform.Statement.{statement}
 use Rattle.bios.proofs.perform.perform.Tie as tie
@@ -81,6 +81,51 @@ of-status-requires-2 c κs = search needs
 enum-known-call-6 : tie.Need-enum-known-call-6
 enum-known-call-6 c = search needs
 
+read-data-requires : tie.Need-read-data-requires
+read-data-requires c κs = search needs
+
+of-read-requires-2 : tie.Need-of-read-requires-2
+of-read-requires-2 c κs = search needs
+
+enum-known-call-7 : tie.Need-enum-known-call-7
+enum-known-call-7 c = search needs
+
+fast-read-data-requires : tie.Need-fast-read-data-requires
+fast-read-data-requires c κs = search needs
+
+of-fast-read-requires-2 : tie.Need-of-fast-read-requires-2
+of-fast-read-requires-2 c κs = search needs
+
+enum-known-call-8 : tie.Need-enum-known-call-8
+enum-known-call-8 c = search needs
+
+write-data-requires : tie.Need-write-data-requires
+write-data-requires c κs = search needs
+
+of-status-requires-3 : tie.Need-of-status-requires-3
+of-status-requires-3 c κs = search needs
+
+enum-known-call-9 : tie.Need-enum-known-call-9
+enum-known-call-9 c = search needs
+
+bus-to-cpu-requires : tie.Need-bus-to-cpu-requires
+bus-to-cpu-requires c κs = search needs
+
+of-to-cpu-requires : tie.Need-of-to-cpu-requires
+of-to-cpu-requires c κs = search needs
+
+enum-known-call-10 : tie.Need-enum-known-call-10
+enum-known-call-10 c = search needs
+
+cpu-to-bus-requires : tie.Need-cpu-to-bus-requires
+cpu-to-bus-requires c κs = search needs
+
+of-to-bus-requires : tie.Need-of-to-bus-requires
+of-to-bus-requires c κs = search needs
+
+enum-known-call-11 : tie.Need-enum-known-call-11
+enum-known-call-11 c = search needs
+
 list-window-requires : tie.Need-list-window-requires
 list-window-requires c κs = search needs
 
@@ -123,8 +168,32 @@ returns-7 c = arm-fast-read _ _ _ _ _ _ _ _ (c .before .before .before .before .
 returns-8 : tie.Need-returns-8
 returns-8 c = arm-write-config _ _ _ _ _ _ _ _ _ _ _ (c .before .before .before .before .before .before .before .call5 .given .1) (c .of-status2 .ensures) (c .before .write-config .ensures)
 
+same-length-5 : tie.Need-same-length-5
+same-length-5 c = search needs
+
 returns-9 : tie.Need-returns-9
-returns-9 c = arm-list _ _ _ _ _ _ (c .before .before .before .before .call6 .given .1) (c .of-listing .ensures) (c .before .list-window .ensures)
+returns-9 c = arm-read-data _ _ _ _ _ _ _ _ _ (c .before .before .before .before .before .before .before .before .call6 .given .1) (c .of-read2 .ensures) (c .before .read-data .ensures)
+
+same-length-6 : tie.Need-same-length-6
+same-length-6 c = search needs
+
+returns-10 : tie.Need-returns-10
+returns-10 c = arm-fast-read-data _ _ _ _ _ _ _ _ _ (c .before .before .before .before .before .before .before .before .call7 .given .1) (c .of-fast-read2 .ensures) (c .before .fast-read-data .ensures)
+
+same-length-7 : tie.Need-same-length-7
+same-length-7 c = search needs
+
+returns-11 : tie.Need-returns-11
+returns-11 c = arm-write-data _ _ _ _ _ _ _ _ _ _ _ (c .before .before .before .before .before .before .before .before .before .before .call8 .given .1) (c .of-status3 .ensures) (c .before .before .before .write-data .ensures)
+
+returns-12 : tie.Need-returns-12
+returns-12 c = arm-bus-to-cpu _ _ _ _ _ _ _ (c .before .before .before .before .before .call9 .given .1) (c .of-to-cpu .ensures) (c .before .bus-to-cpu .ensures)
+
+returns-13 : tie.Need-returns-13
+returns-13 c = arm-cpu-to-bus _ _ _ _ _ _ _ (c .before .before .before .before .before .call10 .given .1) (c .of-to-bus .ensures) (c .before .cpu-to-bus .ensures)
+
+returns-14 : tie.Need-returns-14
+returns-14 c = arm-list _ _ _ _ _ _ (c .before .before .before .before .call11 .given .1) (c .of-listing .ensures) (c .before .list-window .ensures)
 
 pub perform-spec : {M : Type 1} → statement M
 perform-spec =
@@ -155,6 +224,21 @@ perform-spec =
     write-config-requires
     of-status-requires-2
     enum-known-call-6
+    read-data-requires
+    of-read-requires-2
+    enum-known-call-7
+    fast-read-data-requires
+    of-fast-read-requires-2
+    enum-known-call-8
+    write-data-requires
+    of-status-requires-3
+    enum-known-call-9
+    bus-to-cpu-requires
+    of-to-cpu-requires
+    enum-known-call-10
+    cpu-to-bus-requires
+    of-to-bus-requires
+    enum-known-call-11
     list-window-requires
     of-listing-requires
     same-length
@@ -169,4 +253,12 @@ perform-spec =
     returns-6
     returns-7
     returns-8
-    returns-9)
+    same-length-5
+    returns-9
+    same-length-6
+    returns-10
+    same-length-7
+    returns-11
+    returns-12
+    returns-13
+    returns-14)

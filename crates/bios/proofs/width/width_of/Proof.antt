@@ -1,7 +1,7 @@
 -- `width_of`: one test after the other.
 use borrow.Author.Tests.{eq-eqb, ne-eqb}
-use Rattle.bios.proofs.config_exports.width_of.Statement.{statement}
-use Rattle.bios.proofs.config_exports.width_of.Tie as tie
+use Rattle.bios.proofs.width.width_of.Statement.{statement}
+use Rattle.bios.proofs.width.width_of.Tie as tie
 
 returns : tie.Need-returns
 returns c = rw (eq-eqb _ _ (c .if1 .taken))

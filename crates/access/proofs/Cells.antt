@@ -1,0 +1,54 @@
+-- What a write leaves in the cells: the same read gives the value back, and no other cell changes.
+use Prim.Native.Nat.{ℕ, suc, _+_, _%_, _^_, _<_, _≤_}
+use native.Mathlib.Nat.{mod-eq-of-lt}
+use native.Mathlib.Omega.{arith}
+use mathlib.Core.Bool.{Bool, true, false, cond}
+use mathlib.Core.List.{List, [], _∷_, append-assoc}
+use mathlib.Core.Logic.{_⊎_, inl, inr, ⊎-elim}
+use mathlib.Core.Path.{_≡_, refl, _∙_, ap}
+use lib.Dec.{eqb}
+use lib.ListN.{length, getD, set, take, drop}
+use lib.Seq.{sets, length-sets, sets-eq, length-take-le, getD-set-other}
+use Rattle.board.specs.Numbers.{byteAt, big, bigBytes, reversed}
+use Rattle.board.proofs.Numbers.{big-below, reversed-back, big-bytes}
+use Rattle.board.proofs.Tables.{table-length}
+use Rattle.access.specs.Orders.{ordered}
+use Rattle.access.specs.Meaning.{ReadBack, OnlyItsCells}
+
+-- the bytes of a value, stored where there is room, make the value modulo 256 ^ w
+stored-value : (w at value : ℕ) (cells : List ℕ) → at + w ≤ length cells → big w (byteAt (sets cells at (bigBytes w value))) at ≡ value % 256 ^ w
+stored-value w at value cells h =
+    let v : List ℕ = bigBytes w value in
+    let fits : at + length v ≤ length cells = rw table-length h in
+    let front : length (take at cells) ≡ at = length-take-le at cells (omega arith) in
+    let after : List ℕ = drop (at + length v) cells in
+    rw (sets-eq v cells at fits, append-assoc (take at cells) v after) (rw front at (big-bytes w value (take at cells) after))
+
+reversed-below : (w value : ℕ) → reversed w value < 256 ^ w
+unfolding reversed
+reversed-below w value = big-below w _ 0
+
+-- what is taken for the cells comes back from them
+ordered-back : (order w value : ℕ) → ordered order w (ordered order w value % 256 ^ w) ≡ value % 256 ^ w
+ordered-back order w value = by (eqb order 2)
+  where
+    by : (b : Bool) → cond b (reversed w (cond b (reversed w value) value % 256 ^ w)) (cond b (reversed w value) value % 256 ^ w) ≡ value % 256 ^ w
+    by true = rw (mod-eq-of-lt (reversed-below w value)) (reversed-back w value)
+    by false = refl
+
+-- THEOREM: a read after a write of the same width at the same place gives the value written
+pub read-back : ReadBack
+read-back order w at value cells h = ap (ordered order w) (stored-value w at (ordered order w value) cells h) ∙ ordered-back order w value
+
+-- a run of stores changes no place outside it
+sets-other : (l : List ℕ) (i : ℕ) (vs : List ℕ) (j : ℕ) → (j < i) ⊎ (i + length vs ≤ j) → getD (sets l i vs) j 0 ≡ getD l j 0
+sets-other l i [] j h = refl
+sets-other l i (v ∷ vs) j h =
+    sets-other (set l i v) (suc i) vs j (⊎-elim (λ a. inl (omega arith)) (λ b. inr (omega arith)) h)
+    ∙ getD-set-other l i j v 0 (⊎-elim (λ a e. omega arith) (λ b e. omega arith) h)
+
+-- THEOREM: a write changes only the cells of its width
+pub only-its-cells : OnlyItsCells
+only-its-cells order w at value cells =
+    let v : List ℕ = bigBytes w (ordered order w value) in
+    record { room = length-sets cells at v; same = λ j h. sets-other cells at v j (rw table-length h) }

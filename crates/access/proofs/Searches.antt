@@ -1,0 +1,55 @@
+-- A turn of the search through the kept list, at place j.
+use Prim.Native.Nat.{ℕ, zero, suc, _+_, _-_, _/_, _%_, _^_, _<_, _≤_}
+use native.Mathlib.Omega.{arith}
+use mathlib.Core.Bool.{Bool, true, false, not}
+use mathlib.Core.List.{List}
+use mathlib.Core.Path.{_≡_, refl}
+use lib.Dec.{eqb, leb, ltb}
+use borrow.Author.Tests.{leb-true, ltb-true}
+use lib.ListN.{length, getD, drop}
+use Rattle.board.specs.Layout.{bases}
+use Rattle.board.proofs.Tests.{both-true}
+use Rattle.window_list.specs.Kept.{unpack, unpacked}
+use Rattle.window_list.specs.Windows.{Window, end}
+use Rattle.window_list.proofs.Unpacked.{unpacked-none, unpacked-one, unpacked-end}
+use Rattle.access.specs.declared.find.Finding.the-variants.{Nothing}
+use Rattle.access.specs.Find.{holds, judged, inList}
+
+-- a space is memory exactly if it is not I/O
+pub memory-is : (n : ℕ) → n < 2 → not (eqb n 1) ≡ eqb n 0
+memory-is zero h = refl
+memory-is (suc zero) h = refl
+memory-is (suc (suc n)) h = absurd (omega arith)
+
+module _ (offered : ℕ → Bool) (space handle address : ℕ) (l : List ℕ) (j : ℕ) where
+  -- the number there is no window, one that holds the address, another window; or there is none
+  pub list-none : j < length l → getD l j 0 / 2 % 2 ^ 17 ≡ 0 → inList offered space handle address (unpacked (drop j l)) ≡ Nothing
+  unfolding inList
+  list-none h z = rw (unpacked-none l j h z)
+
+  pub list-here : j < length l → (getD l j 0 / 2 % 2 ^ 17 ≡ 0 → ⊥) → holds space handle address (unpack (getD l j 0)) ≡ true
+      → inList offered space handle address (unpacked (drop j l)) ≡ judged offered address (unpack (getD l j 0))
+  unfolding inList
+  list-here h n t = rw (unpacked-one l j h n, t)
+
+  pub list-on : j < length l → (getD l j 0 / 2 % 2 ^ 17 ≡ 0 → ⊥) → holds space handle address (unpack (getD l j 0)) ≡ false
+      → inList offered space handle address (unpacked (drop j l)) ≡ inList offered space handle address (unpacked (drop (j + 1) l))
+  unfolding inList
+  list-on h n t = rw (unpacked-one l j h n, t)
+
+  pub list-end : length l ≤ j → inList offered space handle address (unpacked (drop j l)) ≡ Nothing
+  unfolding inList
+  list-end h = rw (unpacked-end l j h)
+
+-- the address that a window holds lies in it
+pub holds-range : (space handle address : ℕ) (w : Window) → holds space handle address w ≡ true → (w .start ≤ address) × (address < end w)
+holds-range space handle address w e =
+    let a = both-true (eqb (w .space) space) _ e in
+    let b = both-true (eqb (w .handle) handle) _ (a .1) in
+    let c = both-true (ltb (w .base) bases) _ (b .1) in
+    let d = both-true (leb (w .start) address) _ (c .1) in
+    (leb-true (w .start) address (d .0), ltb-true address (end w) (d .1))
+
+-- the bytes that remain, counted from the distance
+pub remains : (start length address : ℕ) → start ≤ address → length - (address - start) ≡ start + length - address
+remains start length address h = omega arith

@@ -1,0 +1,45 @@
+-- Where the cells of an access stand, and what is read and written there.
+use Prim.Native.Nat.{ℕ, _+_, _-_, _*_}
+use mathlib.Core.Bool.{cond}
+use mathlib.Core.List.{List}
+use lib.Dec.{ltb}
+use lib.ListN.{getD}
+use lib.Seq.{sets}
+use Rattle.board.specs.Layout.{bases, byteOrder}
+use Rattle.board.specs.Numbers.{byteAt, big, bigBytes}
+use Rattle.board.specs.Statuses.{bufferTooSmall}
+use Rattle.access.specs.declared.find.Finding.{Finding}
+use Rattle.access.specs.declared.find.Finding.the-variants.{Found, BadHandle, ShortCells, NotAligned, Nothing, Contested, WidthMissing}
+use Rattle.access.specs.declared.place.Place.{Place}
+use Rattle.access.specs.declared.place.Place.the-variants.{At, Refused}
+use Rattle.access.specs.Find.{statusOf, findIn}
+use Rattle.access.specs.Orders.{placed, ordered}
+
+-- the first cell of an access, and the byte order; cells past the buffer, which only an altered board has, give -7, tested last
+abbrev pub cellsAt : ℕ → ℕ → ℕ → ℕ → ℕ → Place
+cellsAt begin order room w distance =
+    let at = begin + placed order w distance in cond (ltb room (at + w)) (Refused bufferTooSmall) (At at order)
+
+-- begins b is where the cells of base register b begin, orders b its byte order
+unfoldable pub placeOf : (ℕ → ℕ) → (ℕ → ℕ) → ℕ → ℕ → Finding → Place
+placeOf begins orders room w (Found base distance remaining) = cellsAt (begins base) (orders base) room w distance
+placeOf begins orders room w BadHandle = Refused (statusOf BadHandle)
+placeOf begins orders room w ShortCells = Refused (statusOf ShortCells)
+placeOf begins orders room w NotAligned = Refused (statusOf NotAligned)
+placeOf begins orders room w Nothing = Refused (statusOf Nothing)
+placeOf begins orders room w Contested = Refused (statusOf Contested)
+placeOf begins orders room w WidthMissing = Refused (statusOf WidthMissing)
+
+-- of the lent parts, with so many cells lent
+abbrev pub dataPlace : ℕ → List ℕ → List ℕ → List ℕ → List ℕ → ℕ → ℕ → ℕ → ℕ → Place
+dataPlace w header records windows offsets room space handle address =
+    placeOf (λ b. getD offsets (bases * (handle - 1) + b) 0) (byteOrder records (handle - 1)) room w
+    (findIn w header records windows offsets room space handle address)
+
+-- cells are read high byte first
+abbrev pub valueAt : ℕ → ℕ → ℕ → List ℕ → ℕ
+valueAt order w at cells = ordered order w (big w (byteAt cells) at)
+
+-- writing stores so that the same read gives it back; of a value the low w bytes are taken
+abbrev pub cellsAfter : ℕ → ℕ → ℕ → ℕ → List ℕ → List ℕ
+cellsAfter order w at value cells = sets cells at (bigBytes w (ordered order w value))

@@ -1,0 +1,45 @@
+-- Data reads and writes: document 01, "Data and byte order" and "Numbers handed back".
+use Prim.Native.Nat.{ℕ}
+use mathlib.Core.List.{List}
+use lib.ListN.{length}
+use Rattle.board.specs.Reads.{accepted, refused, acceptedFast, refusedFast}
+use Rattle.board.specs.Statuses.{successful}
+use Rattle.board.specs.declared.read.Read.{Read}
+use Rattle.board.specs.declared.read.FastRead.{FastRead}
+use Rattle.board.specs.declared.status.Status.{Status}
+use Rattle.access.specs.declared.place.Place.{Place}
+use Rattle.access.specs.declared.place.Place.the-variants.{At, Refused}
+use Rattle.access.specs.Cells.{dataPlace, valueAt, cellsAfter}
+
+abbrev pub readAt : ℕ → List ℕ → Place → Read
+readAt w cells (At at order) = accepted (valueAt order w at cells)
+readAt w cells (Refused s) = refused s
+
+abbrev pub fastReadAt : ℕ → List ℕ → Place → FastRead
+fastReadAt w cells (At at order) = acceptedFast (valueAt order w at cells)
+fastReadAt w cells (Refused s) = refusedFast w
+
+-- a write's status, and the cells that it leaves
+pub record Wrote : Type 0 where
+  pub status : Status
+  pub cells : List ℕ
+
+abbrev pub wrote : Status → List ℕ → Wrote
+wrote status cells = record { status = status; cells = cells }
+
+abbrev pub writeAt : ℕ → ℕ → List ℕ → Place → Wrote
+writeAt w value cells (At at order) = wrote successful (cellsAfter order w at value cells)
+writeAt w value cells (Refused s) = wrote s cells
+
+-- of the lent parts
+abbrev pub readData : ℕ → List ℕ → List ℕ → List ℕ → List ℕ → List ℕ → ℕ → ℕ → ℕ → Read
+readData w header records windows offsets cells space handle address =
+    readAt w cells (dataPlace w header records windows offsets (length cells) space handle address)
+
+abbrev pub fastReadData : ℕ → List ℕ → List ℕ → List ℕ → List ℕ → List ℕ → ℕ → ℕ → ℕ → FastRead
+fastReadData w header records windows offsets cells space handle address =
+    fastReadAt w cells (dataPlace w header records windows offsets (length cells) space handle address)
+
+abbrev pub writeData : ℕ → List ℕ → List ℕ → List ℕ → List ℕ → List ℕ → ℕ → ℕ → ℕ → ℕ → Wrote
+writeData w header records windows offsets cells space handle address value =
+    writeAt w value cells (dataPlace w header records windows offsets (length cells) space handle address)

@@ -1,0 +1,153 @@
+// Reading and writing cells.
+use crate::find::Space;
+use crate::order::ordered;
+use crate::place::Place;
+use crate::place::data_place;
+use board::address::BusAddress;
+use board::layout::CellOffsets;
+use board::layout::Header;
+use board::layout::Records;
+use board::layout::Windows;
+use board::number::Width;
+use board::number::big_at;
+use board::number::bytes;
+use board::number::put_byte;
+use board::number::reversed;
+use board::read::FastRead;
+use board::read::Read;
+use board::read::refused_fast;
+use board::status::Status;
+ghost use mathlib.Core.Path.{_≡_};
+ghost use lib.ListN.{length};
+ghost use lib.Seq.{sets};
+ghost use Prim.Native.Nat.{_+_, _≤_};
+ghost use Rattle.board.specs.Numbers.{bytes, bigBytes};
+ghost use Rattle.access.specs.Find.{spaceNumber};
+ghost use Rattle.access.specs.Cells.{valueAt, cellsAfter};
+ghost use Rattle.access.specs.Data.{readData, fastReadData, wrote, writeData};
+
+// The value in cells, which are read high byte first.
+fn value_at(cells: &[u8], at: usize, order: u8, width: Width) -> u32
+    ensures { λ r. ⌜ r ≡ valueAt order (bytes width) at (now (cells .entry)) ⌝ }
+{
+    ordered(order, width, big_at(cells, at, width))
+}
+
+// Stores the bytes of a number, highest first.
+fn store(cells: &mut [u8], at: usize, width: Width, value: u32)
+    requires { ⌜ at + bytes width ≤ length (now cells) ⌝ }
+    ensures { λ _. ⌜ now (cells .exit) ≡ sets (now (cells .entry)) at (bigBytes (bytes width) value) ⌝ }
+{
+    let w = bytes(width);
+    let mut rest = reversed(value, width);
+    let mut i = 0;
+    while i < w {
+        put_byte(cells, at + i as usize, (rest % 256) as u8);
+        rest = rest / 256;
+        i += 1;
+    }
+}
+
+// Reads a number of a width in a window.
+pub fn read_data(
+    header: &Header,
+    records: &Records,
+    windows: &Windows,
+    offsets: &CellOffsets,
+    cells: &[u8],
+    space: Space,
+    width: Width,
+    handle: u32,
+    address: BusAddress,
+) -> Read
+    ensures { λ r. ⌜ r ≡ readData (bytes width) (now (header .entry)) (now (records .entry)) (now (windows .entry)) (now (offsets .entry)) (now (cells .entry)) (spaceNumber space) handle (address .0) ⌝ }
+{
+    match data_place(
+        header,
+        records,
+        windows,
+        offsets,
+        cells.len(),
+        space,
+        width,
+        handle,
+        address,
+    ) {
+        Place::At { at, order } => Read {
+            status: Status::SUCCESSFUL,
+            value: value_at(cells, at, order, width),
+        },
+        Place::Refused(status) => Read {
+            status: status,
+            value: 0,
+        },
+    }
+}
+
+// The same, with a fault flag in place of the status.
+pub fn fast_read_data(
+    header: &Header,
+    records: &Records,
+    windows: &Windows,
+    offsets: &CellOffsets,
+    cells: &[u8],
+    space: Space,
+    width: Width,
+    handle: u32,
+    address: BusAddress,
+) -> FastRead
+    ensures { λ r. ⌜ r ≡ fastReadData (bytes width) (now (header .entry)) (now (records .entry)) (now (windows .entry)) (now (offsets .entry)) (now (cells .entry)) (spaceNumber space) handle (address .0) ⌝ }
+{
+    match data_place(
+        header,
+        records,
+        windows,
+        offsets,
+        cells.len(),
+        space,
+        width,
+        handle,
+        address,
+    ) {
+        Place::At { at, order } => FastRead {
+            value: value_at(cells, at, order, width),
+            fault: false,
+        },
+        Place::Refused(_) => refused_fast(width),
+    }
+}
+
+// Writes the low bytes of a value in a window, so that the same read gives them back.
+pub fn write_data(
+    header: &Header,
+    records: &Records,
+    windows: &Windows,
+    offsets: &CellOffsets,
+    cells: &mut [u8],
+    space: Space,
+    width: Width,
+    handle: u32,
+    address: BusAddress,
+    value: u32,
+) -> Status
+    ensures { λ r. ⌜ wrote r (now (cells .exit)) ≡ writeData (bytes width) (now (header .entry)) (now (records .entry)) (now (windows .entry)) (now (offsets .entry)) (now (cells .entry)) (spaceNumber space) handle (address .0) value ⌝ }
+{
+    let room = cells.len();
+    match data_place(
+        header,
+        records,
+        windows,
+        offsets,
+        room,
+        space,
+        width,
+        handle,
+        address,
+    ) {
+        Place::At { at, order } => {
+            store(cells, at, width, ordered(order, width, value));
+            Status::SUCCESSFUL
+        }
+        Place::Refused(status) => status,
+    }
+}

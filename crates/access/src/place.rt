@@ -1,0 +1,92 @@
+// Where the cells of an access stand.
+use crate::find::Finding;
+use crate::find::Space;
+use crate::find::find_window;
+use crate::order::placed;
+use board::address::BusAddress;
+use board::layout::BASES;
+use board::layout::CellOffsets;
+use board::layout::Header;
+use board::layout::Records;
+use board::layout::Windows;
+use board::layout::byte_order;
+use board::number::Width;
+use board::number::bytes;
+use board::number::u32_at;
+use board::status::Status;
+ghost use mathlib.Core.Path.{_≡_};
+ghost use lib.ListN.{getD};
+ghost use Prim.Native.Nat.{_+_, _*_};
+ghost use Rattle.board.specs.Layout.{bases, byteOrder};
+ghost use Rattle.board.specs.Numbers.{bytes};
+ghost use Rattle.access.specs.Find.{spaceNumber};
+ghost use Rattle.access.specs.Cells.{cellsAt, dataPlace};
+
+// The first cell and the byte order of an access, or the refusal.
+pub enum Place {
+    At { at: usize, order: u8 },
+    Refused(Status),
+}
+
+// The cells for a distance into the window of a base register.
+fn cells_at(
+    records: &Records,
+    offsets: &CellOffsets,
+    room: usize,
+    width: Width,
+    function: u32,
+    base: u8,
+    distance: u32,
+) -> Place
+    ensures { λ r. ⌜ r ≡ cellsAt (getD (now (offsets .entry)) (bases * function + base) 0) (byteOrder (now (records .entry)) function base) room (bytes width) distance ⌝ }
+{
+    let order = byte_order(records, function, base);
+    let begin = u32_at(offsets, BASES * (function as usize) + base as usize);
+    let at = begin as usize + placed(order, width, distance) as usize;
+    if room < at + bytes(width) as usize {
+        return Place::Refused(Status::BUFFER_TOO_SMALL);
+    }
+    Place::At {
+        at: at,
+        order: order,
+    }
+}
+
+// The cells that an access is for.
+pub fn data_place(
+    header: &Header,
+    records: &Records,
+    windows: &Windows,
+    offsets: &CellOffsets,
+    room: usize,
+    space: Space,
+    width: Width,
+    handle: u32,
+    address: BusAddress,
+) -> Place
+    ensures { λ r. ⌜ r ≡ dataPlace (bytes width) (now (header .entry)) (now (records .entry)) (now (windows .entry)) (now (offsets .entry)) room (spaceNumber space) handle (address .0) ⌝ }
+{
+    match find_window(
+        header,
+        records,
+        windows,
+        offsets,
+        room,
+        space,
+        width,
+        handle,
+        address,
+    ) {
+        Finding::Found {
+            base,
+            distance,
+            remaining: _,
+        } => cells_at(records, offsets, room, width, handle - 1, base, distance),
+        Finding::BadHandle => Place::Refused(Status::BAD_HANDLE),
+        Finding::ShortCells => Place::Refused(Status::BUFFER_TOO_SMALL),
+        Finding::NotAligned => Place::Refused(Status::GENERAL_ERROR),
+        Finding::Nothing => Place::Refused(Status::GENERAL_ERROR),
+        Finding::Contested => Place::Refused(Status::GENERAL_ERROR),
+        Finding::WidthMissing => Place::Refused(Status::FUNC_NOT_SUPPORTED),
+    }
+}

@@ -1,0 +1,17 @@
+-- `bios_bus_to_cpu`: the status of the conversion, read back.
+use Rattle.bios.proofs.Signed.{back}
+use borrow.Author.Needs.{needs}
+use Rattle.bios.proofs.data_exports.bios_bus_to_cpu.Statement.{statement}
+use Rattle.bios.proofs.data_exports.bios_bus_to_cpu.Tie as tie
+
+bus-to-cpu-requires : tie.Need-bus-to-cpu-requires
+bus-to-cpu-requires c κs = search needs
+
+number-requires : tie.Need-number-requires
+number-requires c κs = search needs
+
+returns : tie.Need-returns
+returns c = rw (back _ (record { sfits = c .number .ok }), c .number .ensures, ← c .before .bus-to-cpu .ensures)
+
+pub bios-bus-to-cpu-spec : {M : Type 1} → statement M
+bios-bus-to-cpu-spec = tie.close (tie.spec bus-to-cpu-requires number-requires returns)

@@ -1,0 +1,167 @@
+// Data calls and address conversions for C. A width is a number here; another than 1, 2 or 4 is refused before all else.
+use crate::width::AskedWidth;
+use crate::width::space_of;
+use crate::width::width_of;
+use access::convert::bus_to_cpu;
+use access::convert::cpu_to_bus;
+use access::data::fast_read_data;
+use access::data::read_data;
+use access::data::write_data;
+use board::address::BusAddress;
+use board::address::CpuAddress;
+use board::layout::CellOffsets;
+use board::layout::Header;
+use board::layout::Records;
+use board::layout::Windows;
+use board::status::Status;
+ghost use mathlib.Core.Path.{_≡_};
+ghost use Rattle.access.specs.Convert.{busToCpu, cpuToBus};
+ghost use Rattle.access.specs.Data.{wrote};
+ghost use Rattle.access.specs.Find.{spaceNumber};
+ghost use Rattle.bios.specs.Exports.{status, bus, cpu, widthOf, spaceOf, readNumbers, fastNumbers, fastShown, askedData, askedFastData, askedDataWrite, toCpu, toBus};
+
+// Reads a number of a width in a window; the value, 0 where it is refused, goes to `value`.
+#[no_mangle]
+pub extern "C" fn bios_read_data(
+    header: &Header,
+    records: &Records,
+    windows: &Windows,
+    offsets: &CellOffsets,
+    cells: &[u8],
+    io: u32,
+    width: u32,
+    handle: u32,
+    address: u32,
+    value: &mut u32,
+) -> i32
+    ensures { λ r. ⌜ readNumbers r (now (value .exit)) ≡ askedData (widthOf width) (now (header .entry)) (now (records .entry)) (now (windows .entry)) (now (offsets .entry)) (now (cells .entry)) (spaceNumber (spaceOf io)) handle address ⌝ }
+{
+    match width_of(width) {
+        AskedWidth::Known(width) => {
+            let read = read_data(
+                header,
+                records,
+                windows,
+                offsets,
+                cells,
+                space_of(io),
+                width,
+                handle,
+                BusAddress(address),
+            );
+            *value = read.value;
+            read.status.number()
+        }
+        AskedWidth::Other => {
+            *value = 0;
+            Status::GENERAL_ERROR.number()
+        }
+    }
+}
+
+// Reads it fast: the value, and in `fault` 1 where it is refused.
+#[no_mangle]
+pub extern "C" fn bios_fast_read_data(
+    header: &Header,
+    records: &Records,
+    windows: &Windows,
+    offsets: &CellOffsets,
+    cells: &[u8],
+    io: u32,
+    width: u32,
+    handle: u32,
+    address: u32,
+    fault: &mut u32,
+) -> u32
+    ensures { λ r. ⌜ fastNumbers r (now (fault .exit)) ≡ fastShown (askedFastData (widthOf width) (now (header .entry)) (now (records .entry)) (now (windows .entry)) (now (offsets .entry)) (now (cells .entry)) (spaceNumber (spaceOf io)) handle address) ⌝ }
+{
+    match width_of(width) {
+        AskedWidth::Known(width) => {
+            let read = fast_read_data(
+                header,
+                records,
+                windows,
+                offsets,
+                cells,
+                space_of(io),
+                width,
+                handle,
+                BusAddress(address),
+            );
+            *fault = read.fault as u32;
+            read.value
+        }
+        AskedWidth::Other => {
+            *fault = 1;
+            0xFFFFFFFF
+        }
+    }
+}
+
+// Writes the low bytes of a value in a window.
+#[no_mangle]
+pub extern "C" fn bios_write_data(
+    header: &Header,
+    records: &Records,
+    windows: &Windows,
+    offsets: &CellOffsets,
+    cells: &mut [u8],
+    io: u32,
+    width: u32,
+    handle: u32,
+    address: u32,
+    value: u32,
+) -> i32
+    ensures { λ r. ⌜ wrote (status r) (now (cells .exit)) ≡ askedDataWrite (widthOf width) (now (header .entry)) (now (records .entry)) (now (windows .entry)) (now (offsets .entry)) (now (cells .entry)) (spaceNumber (spaceOf io)) handle address value ⌝ }
+{
+    match width_of(width) {
+        AskedWidth::Known(width) => {
+            let s = write_data(
+                header,
+                records,
+                windows,
+                offsets,
+                cells,
+                space_of(io),
+                width,
+                handle,
+                BusAddress(address),
+                value,
+            );
+            s.number()
+        }
+        AskedWidth::Other => Status::GENERAL_ERROR.number(),
+    }
+}
+
+// Where the CPU sees a bus address of a function; 0 where it is refused.
+#[no_mangle]
+pub extern "C" fn bios_bus_to_cpu(
+    header: &Header,
+    records: &Records,
+    handle: u32,
+    address: u32,
+    cpu: &mut u32,
+) -> i32
+    ensures { λ r. ⌜ toCpu r (now (cpu .exit)) ≡ busToCpu (now (header .entry)) (now (records .entry)) handle (bus address) ⌝ }
+{
+    let to = bus_to_cpu(header, records, handle, BusAddress(address));
+    *cpu = to.address.0;
+    to.status.number()
+}
+
+// The bus address that the CPU sees at an address; 0 where it is refused.
+#[no_mangle]
+pub extern "C" fn bios_cpu_to_bus(
+    header: &Header,
+    records: &Records,
+    handle: u32,
+    address: u32,
+    bus: &mut u32,
+) -> i32
+    ensures { λ r. ⌜ toBus r (now (bus .exit)) ≡ cpuToBus (now (header .entry)) (now (records .entry)) handle (cpu address) ⌝ }
+{
+    let to = cpu_to_bus(header, records, handle, CpuAddress(address));
+    *bus = to.address.0;
+    to.status.number()
+}

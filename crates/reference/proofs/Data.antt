@@ -1,0 +1,118 @@
+-- The simulation of data calls and conversions.
+use Prim.Native.Nat.{ℕ, _+_, _*_, _-_, _%_, _<_}
+use native.Mathlib.Omega.{arith}
+use mathlib.Core.Bool.{Bool}
+use mathlib.Core.List.{List, [], _∷_}
+use mathlib.Core.Path.{_≡_, refl, ap}
+use lib.ListN.{length, getD}
+use lib.Seq.{length-sets}
+use borrow.Author.Tests.{le-ltb}
+use Rattle.board.specs.Layout.{bases, windowsMax, entriesAt, entrySize, offsetAt, offset, byteOrder, widths}
+use Rattle.board.specs.Numbers.{bytes}
+use Rattle.board.specs.declared.address.BusAddress.{BusAddress}
+use Rattle.board.specs.declared.address.CpuAddress.{CpuAddress}
+use Rattle.board.specs.declared.number.Width.{Width}
+use Rattle.board.proofs.Numbers.{big-same}
+use Rattle.window_list.specs.Windows.{Window}
+use Rattle.window_list.proofs.KeptArray.{kept-of}
+use Rattle.access.specs.Cells.{placeOf, dataPlace}
+use Rattle.access.specs.Find.{spaceNumber, holds, offers, inList, find, findIn}
+use Rattle.access.specs.Orders.{placed}
+use Rattle.access.specs.declared.find.Finding.{Finding}
+use Rattle.access.specs.declared.find.Finding.the-variants.{Found, BadHandle, ShortCells, NotAligned, Nothing, Contested, WidthMissing}
+use Rattle.access.specs.declared.find.Space.{Space}
+use Rattle.image.specs.Cells.{offsetsOf}
+use Rattle.image.specs.Load.{padded}
+use Rattle.image.proofs.Ranges.{offset-at, cell-ranges}
+use Rattle.reference.specs.declared.Call.the-variants.{ReadData, FastReadData, WriteData, BusToCpu, CpuToBus}
+use Rattle.reference.specs.State.{step}
+use Rattle.reference.specs.Reference.{Reference, entryOf, exponentOf, joined, windowsOf, findFor, placeIn, placeFor, offsetOf, referenceStep}
+use Rattle.reference.specs.Run.{partsOf}
+use Rattle.reference.proofs.Tests.{ifBoth, ifAt}
+use Rattle.reference.proofs.Registers.{kept-byte}
+use Rattle.reference.proofs.Sound.{Sound, Simulated, as-told, count-same}
+use Rattle.reference.proofs.InSlot.{held, in-window}
+
+-- a search asks only base registers below 6 whether they offer the width
+in-list-same : (f g : ℕ → Bool) (space handle address : ℕ) → ((c : ℕ) → c < bases → f c ≡ g c) → (l : List Window)
+    → inList f space handle address l ≡ inList g space handle address l
+unfolding inList
+in-list-same f g space handle address e [] = refl
+in-list-same f g space handle address e (w ∷ l) =
+    ifBoth (λ (x y : Finding). x ≡ y) (holds space handle address w)
+    (λ h. rw (e (w .base) (held space handle address w h .six))) (λ h. in-list-same f g space handle address e l)
+
+module _ (b : Reference) (s : Sound b) where
+  find-same : (w space handle address : ℕ)
+      → (let p = partsOf b in findIn w (p .header) (p .records) (p .windows) (p .cellOffsets) (length (p .cells)) space handle address) ≡ findFor b w space handle address
+  unfolding partsOf find
+  find-same w space handle address =
+      rw (
+        count-same b s,
+        offset-at (exponentOf (b .records)) windowsMax (omega arith),
+        kept-of (length (b .records)) (exponentOf (b .records)) (b .registers) (s .few),
+        in-list-same (λ c. offers w (widths (padded (joined (b .records))) (handle - 1) c)) (λ c. offers w (entryOf (b .records) (handle - 1) c 2)) space
+            handle address (λ c h. rw (kept-byte (b .records) (s .sized) (handle - 1) (entriesAt + entrySize * c + 2) (omega arith))) (windowsOf b),
+      )
+
+  -- a window that is found has its cells in the buffer
+  place-found : (width : Width) (space handle address : ℕ) (f : Finding) → findFor b (bytes width) space handle address ≡ f
+      → (let p = partsOf b in
+      placeOf (λ c. getD (p .cellOffsets) (bases * (handle - 1) + c) 0) (byteOrder (p .records) (handle - 1)) (length (p .cells)) (bytes width) f)
+      ≡ placeIn b (bytes width) handle f
+  unfolding partsOf placeOf placeIn
+  place-found width space handle address (Found base distance remaining) e =
+      let k = exponentOf (b .records) in
+      let v = in-window b width space handle address base distance remaining e in
+      let n = bases * (handle - 1) + base in
+      let there : n < windowsMax = omega (arith, v .low, v .high, v .six, s .few) in
+      let o = entryOf (b .records) (handle - 1) base 1 in
+      rw (
+        kept-byte (b .records) (s .sized) (handle - 1) (entriesAt + entrySize * base + 1) (omega (arith, v .six)),
+        le-ltb (length (b .cells)) (getD (offsetsOf k) n 0 + placed o (bytes width) distance + bytes width)
+            (omega (arith, v .inside o, cell-ranges k .apart n windowsMax there (omega arith), cell-ranges k .last, s .fits)),
+        offset-at k n (omega arith),
+      )
+  place-found width space handle address BadHandle e = refl
+  place-found width space handle address ShortCells e = refl
+  place-found width space handle address NotAligned e = refl
+  place-found width space handle address Nothing e = refl
+  place-found width space handle address Contested e = refl
+  place-found width space handle address WidthMissing e = refl
+
+  place-same : (width : Width) (space handle address : ℕ)
+      → (let p = partsOf b in dataPlace (bytes width) (p .header) (p .records) (p .windows) (p .cellOffsets) (length (p .cells)) space handle address)
+      ≡ placeFor b (bytes width) space handle address
+  place-same width space handle address = rw (find-same (bytes width) space handle address) (place-found width space handle address _ refl)
+
+  pub same-read-data : (space : Space) (width : Width) (handle : ℕ) (address : BusAddress) (own : List ℕ)
+      → Simulated b (ReadData space width handle address) own
+  unfolding step referenceStep partsOf
+  same-read-data space width handle address own = rw (place-same width _ handle (address .0)) (as-told b s)
+
+  pub same-fast-read-data : (space : Space) (width : Width) (handle : ℕ) (address : BusAddress) (own : List ℕ)
+      → Simulated b (FastReadData space width handle address) own
+  unfolding step referenceStep partsOf
+  same-fast-read-data space width handle address own = rw (place-same width _ handle (address .0)) (as-told b s)
+
+  pub same-write-data : (space : Space) (width : Width) (handle : ℕ) (address : BusAddress) (value : ℕ) (own : List ℕ)
+      → Simulated b (WriteData space width handle address value) own
+  unfolding step referenceStep partsOf
+  same-write-data space width handle address value own =
+      rw (place-same width _ handle (address .0))
+      (ifAt (placeFor b (bytes width) (spaceNumber space) handle (address .0))
+      (λ at order e.
+      rw e (as-told _ (record { few = s .few; sized = s .sized; fits = simp length-sets (s .fits) })))
+      (λ r e. rw e (as-told b s)))
+
+  offset-same : (i : ℕ) → offset (partsOf b .records) i ≡ offsetOf (b .records) i
+  unfolding partsOf
+  offset-same i = big-same 4 _ _ offsetAt offsetAt (λ d h. ap (λ n. n % 256) (kept-byte (b .records) (s .sized) i (offsetAt + d) (omega arith)))
+
+  pub same-bus-to-cpu : (handle : ℕ) (address : BusAddress) (own : List ℕ) → Simulated b (BusToCpu handle address) own
+  unfolding step referenceStep partsOf
+  same-bus-to-cpu handle address own = rw (count-same b s, offset-same (handle - 1)) (as-told b s)
+
+  pub same-cpu-to-bus : (handle : ℕ) (address : CpuAddress) (own : List ℕ) → Simulated b (CpuToBus handle address) own
+  unfolding step referenceStep partsOf
+  same-cpu-to-bus handle address own = rw (count-same b s, offset-same (handle - 1)) (as-told b s)

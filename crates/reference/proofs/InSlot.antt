@@ -1,0 +1,146 @@
+-- Where an accepted access stands: in the cells of one window of its function.
+use Prim.Native.Nat.{ℕ, _+_, _*_, _-_, _/_, _%_, _^_, _<_, _≤_}
+use native.Mathlib.Omega.{arith}
+use native.Mathlib.Nat.{mul-assoc}
+use mathlib.Core.Bool.{true, false≢true}
+use mathlib.Core.Path.{_≡_, refl, sym, _∙_, ap}
+use lib.Dec.{eqb, leb, ltb}
+use lib.ListN.{length}
+use lib.Pow.{pow-add, split}
+use borrow.Author.Tests.{leb-true, ltb-true, eqb-true}
+use Rattle.board.specs.Layout.{bases, command}
+use Rattle.board.specs.Numbers.{bytes}
+use Rattle.board.specs.declared.number.Width.{Width}
+use Rattle.board.specs.declared.number.Width.the-variants.{Byte, Word, Long}
+use Rattle.board.proofs.Tests.{both-true}
+use Rattle.window_list.specs.Windows.{Window, end, startOf, isOpen}
+use Rattle.window_list.specs.Meaning.{OpenAt}
+use Rattle.window_list.proofs.Meaning.{means}
+use Rattle.access.specs.Find.{holds}
+use Rattle.access.specs.Orders.{placed}
+use Rattle.access.specs.declared.find.Finding.{Finding}
+use Rattle.access.specs.declared.find.Finding.the-variants.{Found, BadHandle, ShortCells, NotAligned, Nothing, Contested, WidthMissing}
+use Rattle.access.specs.declared.place.Place.the-variants.{At}
+use Rattle.access.proofs.Windows.{found-means, inside-window}
+use Rattle.image.specs.Cells.{cellCount, slotCells, cellsBefore}
+use Rattle.reference.specs.Reference.{Reference, entryOf, exponentOf, windowsOf, findFor, placeIn, placeFor}
+
+-- an accepted access lies in the cells of one window of its function
+pub record InSlot (b : Reference) (w handle at : ℕ) : Type 0 where
+  pub base : ℕ
+  pub distance : ℕ
+  pub low : 0 < handle
+  pub high : handle ≤ length (b .records)
+  pub six : base < bases
+  pub place : at ≡ cellsBefore (exponentOf (b .records)) (bases * (handle - 1) + base) + distance
+  pub inside : distance + w ≤ slotCells (exponentOf (b .records)) (bases * (handle - 1) + base)
+
+-- a window that is found, with the distance of an address in it: in every byte order the cells of the access are among the window's
+pub record InWindow (b : Reference) (w handle base distance : ℕ) : Type 0 where
+  pub low : 0 < handle
+  pub high : handle ≤ length (b .records)
+  pub six : base < bases
+  pub inside : (order : ℕ) → placed order w distance + w ≤ slotCells (exponentOf (b .records)) (bases * (handle - 1) + base)
+
+-- a window starts at a multiple of 4, so that an aligned address is at an aligned distance from there
+aligned : (width : Width) (address m : ℕ) → address % bytes width ≡ 0 → (address - 4 * m) % bytes width ≡ 0
+aligned Byte address m h = omega arith
+aligned Word address m h = omega arith
+aligned Long address m h = omega arith
+
+start-fours : (k x : ℕ) → 2 ≤ k → startOf k x ≡ 4 * (x / 2 ^ k * 2 ^ (k - 2))
+start-fours k x h =
+    let e : k - 2 + 2 ≡ k = omega arith in
+    let p : x / 2 ^ k * 2 ^ k ≡ x / 2 ^ k * 2 ^ (k - 2) * 4 =
+    ap (λ (n : ℕ). x / 2 ^ k * 2 ^ n) (sym e) ∙ ap (λ (n : ℕ). x / 2 ^ k * n) (pow-add 2 (k - 2) 2) ∙ sym (mul-assoc (x / 2 ^ k) (2 ^ (k - 2)) 4) in
+    omega (arith, split x k, p)
+
+-- the cells of base register c of the function at place i
+slot-of : (k : ℕ → ℕ → ℕ) (i c : ℕ) → c < bases → slotCells k (bases * i + c) ≡ cellCount (k i c)
+slot-of k i c h =
+    let q : (bases * i + c) / bases ≡ i = omega arith in
+    let m : (bases * i + c) % bases ≡ c = omega arith in
+    rw (q, m)
+
+-- an aligned address of an open window
+inside-open : (width : Width) (order k x c address : ℕ) → isOpen k x c ≡ true → startOf k x ≤ address → address < startOf k x + 2 ^ k
+    → address % bytes width ≡ 0 → placed order (bytes width) (address - startOf k x) + bytes width ≤ cellCount k
+inside-open width order k x c address o l h a =
+    let low = both-true (leb 2 k) _ o in
+    let high = both-true (leb k 16) _ (low .1) in
+    let two = leb-true 2 k (low .0) in
+    let d : (address - startOf k x) % bytes width ≡ 0 = rw (start-fours k x two) (aligned width address _ a) in
+    rw (low .0, high .0) (inside-window order width k (address - startOf k x) two (omega arith) d)
+
+-- what a window that holds an address of a handle has
+pub record Held (handle address : ℕ) (v : Window) : Type 0 where
+  pub own : v .handle ≡ handle
+  pub six : v .base < bases
+  pub from : v .start ≤ address
+  pub to : address < end v
+
+pub held : (space handle address : ℕ) (v : Window) → holds space handle address v ≡ true → Held handle address v
+held space handle address v h =
+    let own = both-true (eqb (v .handle) handle) _ (both-true (eqb (v .space) space) _ h .1) in
+    let six = both-true (ltb (v .base) bases) _ (own .1) in
+    let inside = both-true (leb (v .start) address) (ltb address (end v)) (six .1) in
+    record {
+      own = eqb-true (v .handle) handle (own .0);
+      six = ltb-true (v .base) bases (six .0);
+      from = leb-true (v .start) address (inside .0);
+      to = ltb-true address (end v) (inside .1);
+    }
+
+window-inside : (width : Width) (order count : ℕ) (k r : ℕ → ℕ → ℕ) (v : Window) (handle address : ℕ) → OpenAt count k r v → Held handle address v
+    → address % bytes width ≡ 0 → placed order (bytes width) (address - v .start) + bytes width ≤ slotCells k (bases * (handle - 1) + v .base)
+window-inside width order count k r v handle address o h a =
+    let i : v .handle ≡ o .function + 1 = ap (λ (u : Window). u .handle) (o .same) in
+    let e : handle - 1 ≡ o .function = omega (arith, h .own) in
+    let start : v .start ≡ _ = ap (λ (u : Window). u .start) (o .same) in
+    let size : v .length ≡ _ = ap (λ (u : Window). u .length) (o .same) in
+    rw (e, ap (λ (u : Window). u .base) (o .same), slot-of k (o .function) (o .register) (o .six), start)
+    (inside-open width order _ _ (command (r (o .function))) address (o .opened) (omega (arith, h .from)) (omega (arith, h .to)) a)
+
+pub in-window : (b : Reference) (width : Width) (space handle address base distance remaining : ℕ)
+    → findFor b (bytes width) space handle address ≡ Found base distance remaining → InWindow b (bytes width) handle base distance
+in-window b width space handle address base distance remaining e =
+    let rs = b .records in
+    let m = found-means _ _ _ (windowsOf b) space (bytes width) handle address base distance remaining e in
+    let good = both-true (leb 1 handle) (leb handle (length rs)) (m .0 .0) in
+    let f = m .1 .1 in
+    let h = held space handle address (f .window) (f .own) in
+    let o = means (length rs) (exponentOf rs) (b .registers) .listed (f .window) .0 (f .listed) .0 in
+    record {
+      low = leb-true 1 handle (good .0);
+      high = leb-true handle (length rs) (good .1);
+      six = rw (f .atBase) at (h .six);
+      inside = λ order.
+          rw (f .atBase, ← f .fromStart)
+          at (window-inside width order (length rs) (exponentOf rs) (b .registers) (f .window) handle address o h (m .1 .0 .0));
+    }
+
+pub in-slot : (b : Reference) (width : Width) (space handle address at order : ℕ)
+    → placeFor b (bytes width) space handle address ≡ At at order → InSlot b (bytes width) handle at
+unfolding placeIn
+in-slot b width space handle address at order e = by (findFor b (bytes width) space handle address) refl e
+  where
+    by : (f : Finding) → findFor b (bytes width) space handle address ≡ f → placeIn b (bytes width) handle f ≡ At at order
+        → InSlot b (bytes width) handle at
+    by (Found base distance remaining) g h =
+        let w = in-window b width space handle address base distance remaining g in
+        let o = entryOf (b .records) (handle - 1) base 1 in
+        record {
+          base = base;
+          distance = placed o (bytes width) distance;
+          low = w .low;
+          high = w .high;
+          six = w .six;
+          place = cc h;
+          inside = w .inside o;
+        }
+    by BadHandle g h = absurd (false≢true (cc h))
+    by ShortCells g h = absurd (false≢true (cc h))
+    by NotAligned g h = absurd (false≢true (cc h))
+    by Nothing g h = absurd (false≢true (cc h))
+    by Contested g h = absurd (false≢true (cc h))
+    by WidthMissing g h = absurd (false≢true (cc h))

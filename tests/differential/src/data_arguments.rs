@@ -1,0 +1,124 @@
+//! Arguments of data calls and address conversions, chosen with regard to the kept list so
+//! that most reach a window and the rest go just past one.
+
+use crate::access::DataAccess;
+use crate::arguments::{handle, lent, width};
+use crate::calls::Call;
+use crate::pair::Pair;
+use crate::parts::Parts;
+use crate::random::Random;
+use second::{KeptWindow, RECORD_LENGTH, WINDOWS};
+
+/// The offset of a record.
+const OFFSET: usize = 536;
+
+/// A data call; most are writes, as they leave cells that reads can tell apart.
+pub fn data(random: &mut Random, pair: &Pair) -> Call {
+    let access = access(random, pair);
+    match random.below(5) {
+        0 => Call::ReadData(access),
+        1 => Call::FastReadData(access),
+        _ => Call::WriteData { access, value: value(random) },
+    }
+}
+
+/// A conversion of an address: any, or one about where the sum or difference wraps.
+pub fn conversion(random: &mut Random, pair: &Pair) -> Call {
+    let handle = handle(random, pair.parts());
+    let offset = offset(pair.parts(), handle);
+    let (any, near) = (random.long(), random.below(8) as u32);
+    let bound = random.pick(&[offset, offset.wrapping_neg(), 0]);
+    let address = match random.one_in(3) {
+        true => any,
+        false => bound.wrapping_add(near).wrapping_sub(4),
+    };
+    match random.one_in(2) {
+        true => Call::BusToCpu { handle, address },
+        false => Call::CpuToBus { handle, address },
+    }
+}
+
+/// The offset of a handle's function; 0 where there is no place for it.
+pub fn offset(parts: &Parts, handle: u32) -> u32 {
+    let (records, _) = parts.records.as_chunks::<RECORD_LENGTH>();
+    let record = records.get((handle as usize).wrapping_sub(1));
+    let bytes = record.and_then(|record| record[OFFSET..].first_chunk());
+    bytes.map_or(0, |&bytes| u32::from_be_bytes(bytes))
+}
+
+fn access(random: &mut Random, pair: &Pair) -> DataAccess {
+    let (parts, whole) = (pair.parts(), pair.cells().len());
+    let window = window(random, parts);
+    let width = width(random);
+    let address = address(random, window);
+    // Mostly an address that the width allows.
+    let address = match (width, random.one_in(8)) {
+        (2, false) => address & !1,
+        (4, false) => address & !3,
+        _ => address,
+    };
+    let handle = match random.below(8) {
+        0 => handle(random, parts),
+        _ => window.handle,
+    };
+    let total = parts.cell_offsets[WINDOWS] as usize;
+    DataAccess {
+        io: io(random, window.io),
+        width,
+        handle,
+        address,
+        lent: lent(random, whole, total),
+    }
+}
+
+/// A kept window, mostly one that is not contested; at times one that stands past the end
+/// of the list, and any where none is kept.
+fn window(random: &mut Random, parts: &Parts) -> KeptWindow {
+    let windows = parts.listed();
+    let clear: Vec<_> = windows.iter().copied().filter(|window| !window.contested).collect();
+    let choices = match random.below(8) {
+        0 => parts.past_the_list(),
+        1 | 2 => Vec::new(),
+        _ => clear,
+    };
+    if let Some(choices) = [choices, windows].into_iter().find(|choices| !choices.is_empty()) {
+        return random.pick(&choices);
+    }
+    KeptWindow {
+        io: random.one_in(2),
+        start: random.long(),
+        length: 1 << random.within(2..=16),
+        handle: handle(random, parts),
+        base: 0,
+        contested: false,
+    }
+}
+
+/// Inside a window or at one of its ends; at times just outside, or anywhere.
+fn address(random: &mut Random, window: KeptWindow) -> u32 {
+    let inside = random.below(window.length as usize) as u32;
+    let end = window.start.wrapping_add(window.length);
+    let any = random.long();
+    match random.below(16) {
+        0..=7 => window.start.wrapping_add(inside),
+        8 | 9 => window.start,
+        10 | 11 => end.wrapping_sub(1),
+        12 => window.start.wrapping_sub(1),
+        13 | 14 => end,
+        _ => random.pick(&[0, u32::MAX, any]),
+    }
+}
+
+/// Mostly the given space. I/O is every number but 0, and one that is cut could be 0.
+fn io(random: &mut Random, io: bool) -> u32 {
+    match io != random.one_in(12) {
+        true => random.pick(&[1, 1, 2, 0x100, 0x1_0000, 0x8000_0000, u32::MAX]),
+        false => 0,
+    }
+}
+
+/// Mostly one whose four bytes differ, so that it shows where each of them goes.
+fn value(random: &mut Random) -> u32 {
+    let any = random.long();
+    random.pick(&[any, any, any, any, 0, u32::MAX])
+}

@@ -1,0 +1,130 @@
+//! The C functions of the proved library, as host/pci_bios.c declares them too.
+
+use crate::parts::*;
+
+extern "C" {
+    pub fn bios_check_image(image: *const u8, length: usize, room: usize, place: *mut u32) -> u32;
+    pub fn bios_load(
+        image: *const u8,
+        image_length: usize,
+        header: *mut Header,
+        records: *mut Records,
+        registers: *mut Registers,
+        windows: *mut Windows,
+        cell_offsets: *mut CellOffsets,
+        hooks: *mut Hooks,
+        used: *mut UsedMarks,
+        cells: *mut u8,
+        cells_length: usize,
+        place: *mut u32,
+    ) -> u32;
+    pub fn bios_reset(
+        header: *const Header,
+        records: *const Records,
+        registers: *mut Registers,
+        windows: *mut Windows,
+        cell_offsets: *const CellOffsets,
+        hooks: *mut Hooks,
+        used: *mut UsedMarks,
+        cells: *mut u8,
+        cells_length: usize,
+    ) -> i32;
+    pub fn bios_write_image(
+        header: *const Header,
+        records: *const Records,
+        out: *mut u8,
+        out_length: usize,
+    ) -> u32;
+    pub fn bios_list_window(windows: *const Windows, n: u32, values: *mut [u64; 6]) -> i32;
+    pub fn bios_find_pci_device(
+        header: *const Header,
+        registers: *const Registers,
+        id: u32,
+        index: u32,
+    ) -> i32;
+    pub fn bios_find_pci_classcode(
+        header: *const Header,
+        registers: *const Registers,
+        class_code: u32,
+        index: u32,
+    ) -> i32;
+    pub fn bios_read_config(
+        header: *const Header,
+        registers: *const Registers,
+        width: u32,
+        handle: u32,
+        register: u8,
+        value: *mut u32,
+    ) -> i32;
+    pub fn bios_fast_read_config(
+        header: *const Header,
+        registers: *const Registers,
+        width: u32,
+        handle: u32,
+        register: u8,
+        fault: *mut u32,
+    ) -> u32;
+    pub fn bios_write_config(
+        header: *const Header,
+        records: *const Records,
+        registers: *mut Registers,
+        windows: *mut Windows,
+        width: u32,
+        handle: u32,
+        register: u8,
+        value: u32,
+    ) -> i32;
+    pub fn bios_read_data(
+        header: *const Header,
+        records: *const Records,
+        windows: *const Windows,
+        cell_offsets: *const CellOffsets,
+        cells: *const u8,
+        cells_length: usize,
+        io: u32,
+        width: u32,
+        handle: u32,
+        address: u32,
+        value: *mut u32,
+    ) -> i32;
+    pub fn bios_fast_read_data(
+        header: *const Header,
+        records: *const Records,
+        windows: *const Windows,
+        cell_offsets: *const CellOffsets,
+        cells: *const u8,
+        cells_length: usize,
+        io: u32,
+        width: u32,
+        handle: u32,
+        address: u32,
+        fault: *mut u32,
+    ) -> u32;
+    pub fn bios_write_data(
+        header: *const Header,
+        records: *const Records,
+        windows: *const Windows,
+        cell_offsets: *const CellOffsets,
+        cells: *mut u8,
+        cells_length: usize,
+        io: u32,
+        width: u32,
+        handle: u32,
+        address: u32,
+        value: u32,
+    ) -> i32;
+    pub fn bios_bus_to_cpu(
+        header: *const Header,
+        records: *const Records,
+        handle: u32,
+        address: u32,
+        cpu: *mut u32,
+    ) -> i32;
+    pub fn bios_cpu_to_bus(
+        header: *const Header,
+        records: *const Records,
+        handle: u32,
+        address: u32,
+        bus: *mut u32,
+    ) -> i32;
+}
