@@ -10,7 +10,7 @@ use lib.Dec.{eqb}
 use lib.ListN.{length, getD, set, take, drop}
 use lib.Seq.{sets, length-sets, sets-eq, length-take-le, getD-set-other}
 use Rattle.board.specs.Numbers.{byteAt, big, bigBytes, reversed}
-use Rattle.board.proofs.Numbers.{big-below, reversed-back, big-bytes}
+use Rattle.board.proofs.Numbers.{reversed-below, reversed-back, big-bytes}
 use Rattle.board.proofs.Tables.{table-length}
 use Rattle.access.specs.Orders.{ordered}
 use Rattle.access.specs.Meaning.{ReadBack, OnlyItsCells}
@@ -23,10 +23,6 @@ stored-value w at value cells h =
     let front : length (take at cells) ≡ at = length-take-le at cells (omega arith) in
     let after : List ℕ = drop (at + length v) cells in
     rw (sets-eq v cells at fits, append-assoc (take at cells) v after) (rw front at (big-bytes w value (take at cells) after))
-
-reversed-below : (w value : ℕ) → reversed w value < 256 ^ w
-unfolding reversed
-reversed-below w value = big-below w _ 0
 
 -- what is taken for the cells comes back from them
 ordered-back : (order w value : ℕ) → ordered order w (ordered order w value % 256 ^ w) ≡ value % 256 ^ w

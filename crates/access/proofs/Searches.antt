@@ -5,7 +5,7 @@ use mathlib.Core.Bool.{Bool, true, false, not}
 use mathlib.Core.List.{List}
 use mathlib.Core.Path.{_≡_, refl}
 use lib.Dec.{eqb, leb, ltb}
-use borrow.Author.Tests.{leb-true, ltb-true}
+use borrow.Author.Tests.{eqb-true, leb-true, ltb-true}
 use lib.ListN.{length, getD, drop}
 use Rattle.board.specs.Layout.{bases}
 use Rattle.board.proofs.Tests.{both-true}
@@ -41,14 +41,24 @@ module _ (offered : ℕ → Bool) (space handle address : ℕ) (l : List ℕ) (j
   unfolding inList
   list-end h = rw (unpacked-end l j h)
 
--- the address that a window holds lies in it
-pub holds-range : (space handle address : ℕ) (w : Window) → holds space handle address w ≡ true → (w .start ≤ address) × (address < end w)
-holds-range space handle address w e =
-    let a = both-true (eqb (w .space) space) _ e in
-    let b = both-true (eqb (w .handle) handle) _ (a .1) in
-    let c = both-true (ltb (w .base) bases) _ (b .1) in
-    let d = both-true (leb (w .start) address) _ (c .1) in
-    (leb-true (w .start) address (d .0), ltb-true address (end w) (d .1))
+-- what a window that holds an address of a handle has
+pub record Held (handle address : ℕ) (v : Window) : Type 0 where
+  pub own : v .handle ≡ handle
+  pub six : v .base < bases
+  pub from : v .start ≤ address
+  pub to : address < end v
+
+pub held : (space handle address : ℕ) (v : Window) → holds space handle address v ≡ true → Held handle address v
+held space handle address v h =
+    let own = both-true (eqb (v .handle) handle) _ (both-true (eqb (v .space) space) _ h .1) in
+    let six = both-true (ltb (v .base) bases) _ (own .1) in
+    let inside = both-true (leb (v .start) address) (ltb address (end v)) (six .1) in
+    record {
+      own = eqb-true (v .handle) handle (own .0);
+      six = ltb-true (v .base) bases (six .0);
+      from = leb-true (v .start) address (inside .0);
+      to = ltb-true address (end v) (inside .1);
+    }
 
 -- the bytes that remain, counted from the distance
 pub remains : (start length address : ℕ) → start ≤ address → length - (address - start) ≡ start + length - address

@@ -1,15 +1,16 @@
 -- The window of an access: its cells stay inside it, and it is found for the handle named.
-use Prim.Native.Nat.{ℕ, _+_, _-_, _*_, _%_, _^_, _<_, _≤_}
+use Prim.Native.Nat.{ℕ, _-_, _%_, _^_, _<_, _≤_}
 use native.Mathlib.Omega.{arith}
 use mathlib.Core.Bool.{Bool, true, false, cond, true≢false}
 use mathlib.Core.List.{List, [], _∷_}
 use mathlib.Core.Logic.{inl, inr}
-use mathlib.Core.Path.{_≡_, refl, _∙_, ap}
+use mathlib.Core.Path.{_≡_, refl}
 use lib.Bits.{bitXor, xor-lt, xor-mod}
 use lib.Dec.{eqb}
-use lib.Pow.{pow-mono, pow-add}
+use lib.Pow.{pow-mono}
 use borrow.Author.Tests.{eqb-true}
 use Rattle.board.specs.declared.number.Width.the-variants.{Byte, Word, Long}
+use Rattle.board.proofs.Numbers.{power-fours}
 use Rattle.window_list.specs.Meaning.{In}
 use Rattle.window_list.specs.Windows.{Window, end}
 use Rattle.access.specs.declared.find.Finding.the-variants.{Found, BadHandle, ShortCells, NotAligned, Contested, WidthMissing}
@@ -33,17 +34,13 @@ placed-aligned order e o a h = by (eqb order 1)
     by true = rw (xor-mod o (4 - 2 ^ e) e, a, h)
     by false = h
 
--- a window of such a length has whole longwords
-whole-longs : (k : ℕ) → 2 ≤ k → 2 ^ k ≡ 4 * 2 ^ (k - 2)
-whole-longs k s = let e : k ≡ 2 + (k - 2) = omega arith in ap (λ n. 2 ^ n) e ∙ pow-add 2 2 (k - 2)
-
--- THEOREM: in every order the cells of an aligned access stay inside its window
+-- THEOREM: in every order the cells of an aligned access stay inside its window, which has whole longwords
 pub inside-window : InsideWindow
 inside-window order Byte k o s h a = omega (arith, placed-below order 1 k o (omega arith) s h)
 inside-window order Word k o s h a =
-    omega (arith, placed-below order 2 k o (omega arith) s h, placed-aligned order 1 o refl a, whole-longs k s)
+    omega (arith, placed-below order 2 k o (omega arith) s h, placed-aligned order 1 o refl a, power-fours k s)
 inside-window order Long k o s h a =
-    omega (arith, placed-below order 4 k o (omega arith) s h, placed-aligned order 2 o refl a, whole-longs k s)
+    omega (arith, placed-below order 4 k o (omega arith) s h, placed-aligned order 2 o refl a, power-fours k s)
 
 module _ (offered : ℕ → Bool) (l : List Window) (space handle address base distance remaining : ℕ) where
   -- what is to be shown of the list's part in a finding

@@ -1,5 +1,4 @@
 // Data calls: the window for a handle, byte orders, reads and writes of cells, and the address conversions.
-pub mod calls;
 pub mod convert;
 pub mod data;
 pub mod find;

@@ -1,4 +1,2 @@
--- The laws that proofs here cite.
-pub mod Signed
-pub mod Found
-pub mod Arms
+-- The law that a proof here cites.
+pub mod Listings

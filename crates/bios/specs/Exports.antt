@@ -16,8 +16,6 @@ use Rattle.config.specs.Read.{readConfig, fastReadConfig}
 use Rattle.config.specs.Write.{Wrote, wrote, writeConfig}
 use Rattle.board.specs.declared.read.Read.{Read}
 use Rattle.board.specs.declared.read.FastRead.{FastRead}
-use Rattle.config.specs.declared.search.Search.{Search}
-use Rattle.config.specs.declared.search.Search.the-variants.{Found, Refused}
 use Rattle.access.specs.Data.{readData, fastReadData, writeData, Wrote as DataWrote, wrote as dataWrote}
 use Rattle.access.specs.declared.convert.ToBus.{ToBus}
 use Rattle.access.specs.declared.convert.ToCpu.{ToCpu}
@@ -44,11 +42,6 @@ shown number values = record { number = number; values = values }
 -- window n of a list: space (1 for I/O), start, length, handle, base register, contested; zeros past the end
 abbrev pub shownWindow : List Window → ℕ → Shown
 shownWindow l n = shown (listedNumber l n) (listedValues l n)
-
--- the handle that a search found, 0 for none
-abbrev pub handleFound : Search → ℕ
-handleFound (Found handle) = handle
-handleFound (Refused status) = 0
 
 -- a width for C: 1, 2 or 4; another is refused with -8, and a fast read of it gives all ones
 abbrev pub widthOf : ℕ → AskedWidth

@@ -1,5 +1,4 @@
 // Searches and configuration calls for C. A width is a number here; another than 1, 2 or 4 is refused before all else.
-use crate::answer::of_search;
 use crate::width::AskedWidth;
 use crate::width::width_of;
 use board::layout::Header;
@@ -9,9 +8,9 @@ use board::layout::Windows;
 use board::status::Status;
 use config::read::fast_read_config;
 use config::read::read_config;
-use config::search::find_pci_classcode;
-use config::search::find_pci_device;
 use config::write::write_config;
+use dispatch::searches::class_answer;
+use dispatch::searches::device_answer;
 ghost use mathlib.Core.Path.{_≡_};
 ghost use Rattle.board.specs.Handles.{functionCount};
 ghost use Rattle.board.specs.Layout.{registerByte};
@@ -29,7 +28,7 @@ pub extern "C" fn bios_find_pci_device(
 ) -> i32
     ensures { λ r. ⌜ r ≡ searchNumber (devices id (functionCount (now (header .entry))) (registerByte (now (registers .entry)))) index ⌝ }
 {
-    let a = of_search(find_pci_device(header, registers, id, index));
+    let a = device_answer(header, registers, id, index);
     a.number
 }
 
@@ -42,7 +41,7 @@ pub extern "C" fn bios_find_pci_classcode(
 ) -> i32
     ensures { λ r. ⌜ r ≡ searchNumber (classes class (functionCount (now (header .entry))) (registerByte (now (registers .entry)))) index ⌝ }
 {
-    let a = of_search(find_pci_classcode(header, registers, class, index));
+    let a = class_answer(header, registers, class, index);
     a.number
 }
 

@@ -1,5 +1,4 @@
 // Calls for C: numbers and lent memory in, numbers out. A slice is a pointer and a length, an array or a place for a number is a pointer.
-use crate::answer::of_listing;
 use board::layout::CellOffsets;
 use board::layout::Header;
 use board::layout::Hooks;
@@ -7,17 +6,18 @@ use board::layout::Records;
 use board::layout::Registers;
 use board::layout::Used;
 use board::layout::Windows;
+use dispatch::answer::of_listing;
 use image::check::check_image;
-use image::load::load;
-use image::load::reset;
 use image::write::write_image;
+use load::calls::load;
+use load::calls::reset;
 use reference::Values;
 use window_list::listing::list_window;
 ghost use mathlib.Core.Path.{_≡_};
 ghost use Rattle.board.specs.Parts.{parts};
 ghost use Rattle.window_list.specs.Kept.{unpacked};
 ghost use Rattle.image.specs.Check.{checked};
-ghost use Rattle.image.specs.Load.{loaded, load, resetTo, reset};
+ghost use Rattle.load.specs.Load.{loaded, load, resetTo, reset};
 ghost use Rattle.image.specs.Write.{written, write};
 ghost use Rattle.bios.specs.Exports.{verdict, status, shown, shownWindow};
 

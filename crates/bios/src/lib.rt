@@ -1,7 +1,5 @@
-// The BIOS: every call through one function, and the calls for C.
-mod answer;
+// The calls for C, a static library.
 pub mod config_exports;
 pub mod data_exports;
 pub mod exports;
-pub mod perform;
 mod width;

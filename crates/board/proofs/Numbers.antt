@@ -1,4 +1,4 @@
--- Laws of the numbers of w bytes, for every w: their bound, what they depend on, their digits, and what the digits of a value make.
+-- Laws of the numbers of w bytes, for every w: their bound, what they depend on, their digits, and what the digits of a value make; and one of powers of two.
 use mathlib.Core.Path.{_≡_, refl, sym, ap, _∙_}
 use mathlib.Core.List.{List, _++_}
 use Prim.Native.Nat.{ℕ, zero, suc, _+_, _-_, _*_, _/_, _%_, _<_, _≤_, _^_}
@@ -7,6 +7,7 @@ use native.Mathlib.Numerals.{add-one}
 use native.Mathlib.Nat.{add-zero, zero-add, pow-suc, pow-succ', div-one, div-div-eq-div-mul, one-le-pow}
 use lib.Dec.{lit<}
 use lib.Arith.{mod-mul}
+use lib.Pow.{pow-add}
 use lib.ListN.{length, getD, take, drop, length-drop, List·getD-append}
 use lib.Seq.{length-take-le, getD-append-add, getD-take, getD-drop, ext-getD}
 use Rattle.board.specs.Numbers.{byteAt, little, big, bigBytes, reversed}
@@ -59,13 +60,16 @@ little-digit (suc w) f at (suc i) h =
     let rest : (f at % 256 + 256 * little w f (at + 1)) / 256 ≡ little w f (at + 1) = omega arith in
     rw (pow-succ', ← div-div-eq-div-mul, rest, ← next at i) (little-digit w f (at + 1) i (omega arith))
 
+-- a value without its i lowest digits, and then without one more
+pub digit-less : (v i : ℕ) → v / 256 ^ i / 256 ≡ v / 256 ^ (i + 1)
+digit-less v i = rw (add-one, pow-suc) (div-div-eq-div-mul v (256 ^ i) 256)
+
 -- w digits of a value, from digit `at`, make the value's part there
 pub little-part : (w v at : ℕ) → little w (λ i. v / 256 ^ i) at ≡ v / 256 ^ at % 256 ^ w
 unfolding little
 little-part zero v at = omega arith
 little-part (suc w) v at =
-    let up : v / 256 ^ (at + 1) ≡ v / 256 ^ at / 256 = rw (add-one, pow-suc) (sym (div-div-eq-div-mul v (256 ^ at) 256)) in
-    rw (little-part w v (at + 1), up, pow-suc 256 w, mod-mul (v / 256 ^ at) (one-le-pow w 256 (lit< tt)) (lit< tt)) (omega arith)
+    rw (little-part w v (at + 1), ← digit-less v at, pow-suc 256 w, mod-mul (v / 256 ^ at) (one-le-pow w 256 (lit< tt)) (lit< tt)) (omega arith)
 
 -- the w lowest digits of a value make the value modulo 256 ^ w
 pub little-of : (w v : ℕ) → little w (λ i. v / 256 ^ i) 0 ≡ v % 256 ^ w
@@ -102,6 +106,17 @@ pub reversed-little : (w : ℕ) (f : ℕ → ℕ) (at : ℕ) → reversed w (lit
 unfolding reversed
 reversed-little w f at = big-same w _ _ 0 at (λ i h. rw zero-add (little-digit w f at i h))
 
+-- a reversed number has w bytes too
+pub reversed-below : (w v : ℕ) → reversed w v < 256 ^ w
+unfolding reversed
+reversed-below w v = big-below w _ 0
+
+-- digit i of a reversed number, the least first, is byte i of the number, the highest first
+pub reversed-digit : (w v i : ℕ) → i < w → reversed w v / 256 ^ i % 256 ≡ getD (bigBytes w v) i 0
+unfolding reversed
+reversed-digit w v i h =
+    big-digit w (λ j. v / 256 ^ j) 0 i h ∙ rw (table-get 0 w (λ j. v / 256 ^ (w - suc j) % 256) i h, zero-add (w - suc i), zero-add i)
+
 -- reversed twice, a number of w bytes is itself
 pub reversed-back : (w v : ℕ) → reversed w (reversed w v) ≡ v % 256 ^ w
 unfolding reversed
@@ -130,3 +145,7 @@ bytes-big w l at small h =
         table-get 0 w (λ j. big w (byteAt l) at / 256 ^ (w - suc j) % 256) i h
         ∙ big-digit w (byteAt l) at (w - suc (0 + i)) (omega arith)
         ∙ rw (e, getD-take w (drop at l) i 0 h, getD-drop at l i 0) (omega (arith, small (at + i)))
+
+-- a power of two from 4 on is a multiple of 4
+pub power-fours : (k : ℕ) → 2 ≤ k → 2 ^ k ≡ 4 * 2 ^ (k - 2)
+power-fours k h = let e : k ≡ 2 + (k - 2) = omega arith in ap (λ n. 2 ^ n) e ∙ pow-add 2 2 (k - 2)

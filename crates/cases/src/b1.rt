@@ -5,9 +5,10 @@ use crate::boards::show;
 use crate::rows::begin;
 use crate::rows::decimal;
 use crate::rows::end;
-use crate::rows::hexadecimal;
 use crate::rows::number;
+use crate::rows::reads;
 use crate::rows::text;
+use crate::rows::written;
 use board::layout::BASE_0;
 use board::layout::COMMAND;
 use board::layout::FUNCTIONS;
@@ -18,6 +19,7 @@ use board::layout::REGISTER_BYTES;
 use board::layout::Records;
 use board::layout::Registers;
 use board::layout::WINDOWS;
+use board::layout::Windows;
 use board::number::Width;
 use board::number::put_byte;
 use config::read::fast_read_config;
@@ -47,9 +49,9 @@ fn set_function(records: &mut Records, registers: &mut Registers, function: usiz
 pub(crate) fn set_b1(records: &mut Records, registers: &mut Registers) -> Header {
     build(
         &[
-            0x1_3_0_0a_80000000,
-            0x2_3_0_0a_80000400,
-            0x2_3_1_04_00000101,
+            0x7_1_01_3_0_0a_80000000,
+            0x7_1_02_3_0_0a_80000400,
+            0x1_2_02_3_1_04_00000101,
         ],
         records,
         registers,
@@ -73,57 +75,44 @@ fn found(search: Search) {
 }
 
 // A row with a search by device.
-pub(crate) fn device(name: &[u8], id: u32, index: u32, sentence: &[u8]) {
+pub(crate) fn device(row: &[u8], id: u32, index: u32) {
     let mut records = [0u8; FUNCTIONS * RECORD];
     let mut registers = [0u8; FUNCTIONS * REGISTER_BYTES];
     let header = set_b1(&mut records, &mut registers);
-    begin(name);
+    begin(row);
     found(find_pci_device(&header, &registers, id, index));
-    end(sentence);
+    end(row);
 }
 
 // A row with a search by class.
-pub(crate) fn class(name: &[u8], class: u32, index: u32, sentence: &[u8]) {
+pub(crate) fn class(row: &[u8], class: u32, index: u32) {
     let mut records = [0u8; FUNCTIONS * RECORD];
     let mut registers = [0u8; FUNCTIONS * REGISTER_BYTES];
     let header = set_b1(&mut records, &mut registers);
-    begin(name);
+    begin(row);
     found(find_pci_classcode(&header, &registers, class, index));
-    end(sentence);
+    end(row);
 }
 
 // A row with a read, plain and then fast.
-pub(crate) fn read(name: &[u8], width: Width, handle: u32, register: u8, sentence: &[u8]) {
+pub(crate) fn read(row: &[u8], width: Width, handle: u32, register: u8) {
     let mut records = [0u8; FUNCTIONS * RECORD];
     let mut registers = [0u8; FUNCTIONS * REGISTER_BYTES];
     let header = set_b1(&mut records, &mut registers);
     let plain = read_config(&header, &registers, width, handle, register);
     let fast = fast_read_config(&header, &registers, width, handle, register);
-    begin(name);
-    number(plain.status.number());
-    hexadecimal(plain.value);
-    text(b"; fast");
-    hexadecimal(fast.value);
-    if fast.fault {
-        text(b" fault");
-    }
-    end(sentence);
+    begin(row);
+    reads(plain, fast);
+    end(row);
 }
 
 // A row with a write, and the longword that the register then is in.
-pub(crate) fn write(
-    name: &[u8],
-    width: Width,
-    handle: u32,
-    register: u8,
-    value: u32,
-    sentence: &[u8],
-) {
+pub(crate) fn write(row: &[u8], width: Width, handle: u32, register: u8, value: u32) {
     let mut records = [0u8; FUNCTIONS * RECORD];
     let mut registers = [0u8; FUNCTIONS * REGISTER_BYTES];
     let mut list = [0u64; WINDOWS];
     let header = set_b1(&mut records, &mut registers);
-    let written = write_config(
+    let status = write_config(
         &header,
         &records,
         &mut registers,
@@ -134,30 +123,51 @@ pub(crate) fn write(
         value,
     );
     let read = read_config(&header, &registers, Width::Long, handle, register / 4 * 4);
-    begin(name);
-    number(written.number());
-    text(b";");
-    number(read.status.number());
-    hexadecimal(read.value);
-    end(sentence);
+    begin(row);
+    written(status, read);
+    end(row);
+}
+
+// A write, and the window list after it.
+fn show_after(
+    header: &Header,
+    records: &Records,
+    registers: &mut Registers,
+    list: &mut Windows,
+    width: Width,
+    handle: u32,
+    register: u8,
+    value: u32,
+) {
+    write_config(
+        header,
+        records,
+        registers,
+        list,
+        width,
+        handle,
+        register,
+        value,
+    );
+    show(list);
 }
 
 // A row with the window list after a write, and after a second one.
 pub(crate) fn move_window(
-    name: &[u8],
+    row: &[u8],
     width: Width,
     handle: u32,
     register: u8,
     first: u32,
     second: u32,
-    sentence: &[u8],
 ) {
     let mut records = [0u8; FUNCTIONS * RECORD];
     let mut registers = [0u8; FUNCTIONS * REGISTER_BYTES];
     let mut list = [0u64; WINDOWS];
     let header = set_b1(&mut records, &mut registers);
     refresh(&header, &records, &registers, &mut list);
-    write_config(
+    begin(row);
+    show_after(
         &header,
         &records,
         &mut registers,
@@ -167,9 +177,8 @@ pub(crate) fn move_window(
         register,
         first,
     );
-    begin(name);
-    show(&list);
-    write_config(
+    text(b"; then");
+    show_after(
         &header,
         &records,
         &mut registers,
@@ -179,7 +188,5 @@ pub(crate) fn move_window(
         register,
         second,
     );
-    text(b"; then");
-    show(&list);
-    end(sentence);
+    end(row);
 }

@@ -28,7 +28,7 @@ pub(crate) fn put_long(s: &mut [u8], at: usize, v: u32) {
     put_byte(s, at + 3, (v / 16777216) as u8);
 }
 
-// One number a window, by its hexadecimal digits: handle (2), command (1), base register (1), length exponent (2), value (8).
+// One number a window, by its hexadecimal digits: widths (1), byte order (1), handle (2), command (1), base register (1), length exponent (2), value (8).
 const EXPONENTS: u64 = 0x1_00000000;
 
 const BASES: u64 = 0x1_00_00000000;
@@ -37,19 +37,35 @@ const COMMANDS: u64 = 0x1_0_00_00000000;
 
 const HANDLES: u64 = 0x1_0_0_00_00000000;
 
-// Sets the registers and the record that a window needs.
-fn set(records: &mut Records, registers: &mut Registers, window: u64) {
+const ORDERS: u64 = 0x1_00_0_0_00_00000000;
+
+const WIDTHS: u64 = 0x1_0_00_0_0_00_00000000;
+
+// Sets the entry at a place of the records.
+fn set_entry(records: &mut Records, at: usize, window: u64) {
+    if FUNCTIONS * RECORD <= at {
+        return;
+    }
+    put_byte(records, at, (window / EXPONENTS % 256) as u8);
+    put_byte(records, at + 1, (window / ORDERS % 16) as u8);
+    put_byte(records, at + 2, (window / WIDTHS) as u8);
+}
+
+// Sets the registers and the record that a window needs; a number with handle 0 sets nothing.
+pub(crate) fn set(records: &mut Records, registers: &mut Registers, window: u64) {
     let handle = (window / HANDLES % 256) as usize;
     if handle == 0 {
         return;
     }
-    let record = RECORD * (handle - 1);
     let first = REGISTER_BYTES * (handle - 1);
     let b = (window / BASES % 16) as usize;
-    let k = (window / EXPONENTS % 256) as u8;
     let command = (window / COMMANDS % 16) as u8;
     let value = (window % EXPONENTS) as u32;
-    put_byte(records, record + (ENTRIES as usize + ENTRY as usize * b), k);
+    set_entry(
+        records,
+        RECORD * (handle - 1) + (ENTRIES as usize + ENTRY as usize * b),
+        window,
+    );
     put_byte(registers, first + COMMAND as usize, command);
     put_long(registers, first + (BASE_0 as usize + 4 * b), value);
 }
@@ -75,16 +91,16 @@ pub(crate) fn show(list: &Windows) {
 }
 
 // A row with the window list of a board.
-pub(crate) fn case(name: &[u8], count: u32, windows: &[u64], sentence: &[u8]) {
+pub(crate) fn case(row: &[u8], count: u32, windows: &[u64]) {
     let header = [count, 0, 0, 0];
     let mut records = [0u8; FUNCTIONS * RECORD];
     let mut registers = [0u8; FUNCTIONS * REGISTER_BYTES];
     let mut list = [0u64; WINDOWS];
     build(windows, &mut records, &mut registers);
     refresh(&header, &records, &registers, &mut list);
-    begin(name);
+    begin(row);
     show(&list);
-    end(sentence);
+    end(row);
 }
 
 // All 96 windows of 64 KB each, the first base register of the first function at the highest start.
@@ -102,14 +118,14 @@ fn build_full(records: &mut Records, registers: &mut Registers) {
 }
 
 // A row with window n of the full board.
-pub(crate) fn case_full(name: &[u8], n: u32, sentence: &[u8]) {
+pub(crate) fn case_full(row: &[u8], n: u32) {
     let header = [16, 0, 0, 0];
     let mut records = [0u8; FUNCTIONS * RECORD];
     let mut registers = [0u8; FUNCTIONS * REGISTER_BYTES];
     let mut list = [0u64; WINDOWS];
     build_full(&mut records, &mut registers);
     refresh(&header, &records, &registers, &mut list);
-    begin(name);
+    begin(row);
     answer(list_window(&list, n));
-    end(sentence);
+    end(row);
 }

@@ -1,7 +1,9 @@
 // Cases of document 01, a row each: what is asked, the answer, and the sentence that gives it. The stored output was written from document 01.
 mod b1;
 mod boards;
+mod cells;
 mod configuration;
+mod data;
 mod rows;
 mod vocabulary;
 mod windows;
@@ -24,4 +26,9 @@ fn main() {
     configuration::reads();
     configuration::writes();
     configuration::moves();
+    data::orders();
+    data::refusals();
+    data::counts();
+    data::touches();
+    data::conversions();
 }

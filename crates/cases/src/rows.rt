@@ -1,20 +1,43 @@
-// A row: its name, its answer in words and numbers, its sentence.
+// A row as it is printed: its name, its answer in words and numbers, its sentence. In the code `name | sentence` is one text: each text costs the proof.
+use board::read::FastRead;
+use board::read::Read;
+use board::status::Status;
 use libc::STDOUT_FILENO;
 use window_list::listing::ListedWindow;
 use window_list::listing::Listing;
+ghost use lib.ListN.{length};
+ghost use Prim.Native.Nat.{_≤_};
 
 pub(crate) fn text(s: &[u8]) {
     io::write_all(STDOUT_FILENO, s);
 }
 
-pub(crate) fn begin(name: &[u8]) {
-    text(name);
-    text(b" |");
+// The place of the bar, which is the end where there is none.
+fn bar(row: &[u8]) -> usize
+    ensures { λ r. ⌜ r ≤ length (now (row .entry)) ⌝ }
+{
+    let mut i = 0;
+    while i < row.len() {
+        if row[i] == b'|' {
+            return i;
+        }
+        i += 1;
+    }
+    i
 }
 
-pub(crate) fn end(sentence: &[u8]) {
+pub(crate) fn begin(row: &[u8]) {
+    let name = bar(row);
+    text(&row[..name]);
+    text(b"|");
+}
+
+pub(crate) fn end(row: &[u8]) {
+    let sentence = bar(row) + 2;
     text(b" | \"");
-    text(sentence);
+    if sentence <= row.len() {
+        text(&row[sentence..]);
+    }
     text(b"\"\n");
 }
 
@@ -30,19 +53,51 @@ pub(crate) fn decimal(n: u32) {
     io::print_decimal(STDOUT_FILENO, n as u64);
 }
 
-// A blank and the number of an answer; document 01 has these and no others.
-pub(crate) fn number(n: i32) {
+// The number of an answer without its sign; document 01 has these and no others.
+fn magnitude(n: i32) -> u32 {
     match n {
-        0 => text(b" 0"),
-        -2 => text(b" -2"),
-        -4 => text(b" -4"),
-        -5 => text(b" -5"),
-        -6 => text(b" -6"),
-        -7 => text(b" -7"),
-        -8 => text(b" -8"),
-        -9 => text(b" -9"),
-        _ => text(b" another number"),
+        0 => 0,
+        -2 => 2,
+        -4 => 4,
+        -5 => 5,
+        -6 => 6,
+        -7 => 7,
+        -8 => 8,
+        -9 => 9,
+        _ => 0xFFFFFFFF,
     }
+}
+
+// A blank and the number of an answer.
+pub(crate) fn number(n: i32) {
+    text(b" ");
+    if n != 0 {
+        text(b"-");
+    }
+    io::print_decimal(STDOUT_FILENO, magnitude(n) as u64);
+}
+
+// A number and the value that comes with it.
+pub(crate) fn value(status: Status, value: u32) {
+    number(status.number());
+    hexadecimal(value);
+}
+
+// A plain read and the fast one.
+pub(crate) fn reads(plain: Read, fast: FastRead) {
+    value(plain.status, plain.value);
+    text(b"; fast");
+    hexadecimal(fast.value);
+    if fast.fault {
+        text(b" fault");
+    }
+}
+
+// A write and a read after it.
+pub(crate) fn written(status: Status, read: Read) {
+    number(status.number());
+    text(b";");
+    value(read.status, read.value);
 }
 
 fn range(window: ListedWindow) {

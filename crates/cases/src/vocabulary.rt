@@ -14,7 +14,8 @@ use board::number::reversed;
 use board::status::Status;
 
 pub(crate) fn numbers() {
-    begin(b"numbers");
+    let row = b"numbers | Each number belongs to the answer's own type as a constant.";
+    begin(row);
     number(Status::SUCCESSFUL.number());
     number(Status::FUNC_NOT_SUPPORTED.number());
     number(Status::DEVICE_NOT_FOUND.number());
@@ -23,28 +24,42 @@ pub(crate) fn numbers() {
     number(Status::BUFFER_TOO_SMALL.number());
     number(Status::GENERAL_ERROR.number());
     number(Status::BAD_HANDLE.number());
-    end(b"Each number belongs to the answer's own type as a constant.");
+    end(row);
 }
 
-fn to_cpu(name: &[u8], bus: u32, offset: u32) {
-    begin(name);
+fn to_cpu(row: &[u8], bus: u32, offset: u32) {
+    begin(row);
     hexadecimal(BusAddress(bus).to_cpu(offset).0);
-    end(b"The CPU address is the PCI address plus the offset, modulo 2^32");
+    end(row);
 }
 
-fn to_bus(name: &[u8], cpu: u32, offset: u32) {
-    begin(name);
+fn to_bus(row: &[u8], cpu: u32, offset: u32) {
+    begin(row);
     hexadecimal(CpuAddress(cpu).to_bus(offset).0);
-    end(
-        b"The offset is added by wrapping add and taken off by wrapping subtract, so that both conversions undo each other.",
-    );
+    end(row);
 }
 
 pub(crate) fn addresses() {
-    to_cpu(b"bus 80000000h, offset 40000000h", 0x80000000, 0x40000000);
-    to_cpu(b"bus FFFFFFFCh, offset 8", 0xFFFFFFFC, 8);
-    to_bus(b"CPU C0000000h, offset 40000000h", 0xC0000000, 0x40000000);
-    to_bus(b"CPU 4, offset 8", 4, 8);
+    to_cpu(
+        b"bus 80000000h, offset 40000000h | The CPU address is the PCI address plus the offset, modulo 2^32",
+        0x80000000,
+        0x40000000,
+    );
+    to_cpu(
+        b"bus FFFFFFFCh, offset 8 | The CPU address is the PCI address plus the offset, modulo 2^32",
+        0xFFFFFFFC,
+        8,
+    );
+    to_bus(
+        b"CPU C0000000h, offset 40000000h | The offset is added by wrapping add and taken off by wrapping subtract, so that both conversions undo each other.",
+        0xC0000000,
+        0x40000000,
+    );
+    to_bus(
+        b"CPU 4, offset 8 | The offset is added by wrapping add and taken off by wrapping subtract, so that both conversions undo each other.",
+        4,
+        8,
+    );
 }
 
 fn handle(count: u32, h: u32) {
@@ -57,38 +72,61 @@ fn handle(count: u32, h: u32) {
 }
 
 pub(crate) fn handles() {
-    begin(b"handles 0, 1, 2, 3, 101h, FFFFFFFFh of two functions");
+    let row =
+        b"handles 0, 1, 2, 3, 101h, FFFFFFFFh of two functions | The handle of the function at place i (from 0) is i+1";
+    begin(row);
     handle(2, 0);
     handle(2, 1);
     handle(2, 2);
     handle(2, 3);
     handle(2, 0x101);
     handle(2, 0xFFFFFFFF);
-    end(b"The handle of the function at place i (from 0) is i+1");
-    begin(b"handle 1 of no function");
+    end(row);
+    let row = b"handle 1 of no function | Every other number is a bad handle.";
+    begin(row);
     handle(0, 1);
-    end(b"Every other number is a bad handle.");
-    begin(b"handles 16 and 17 of a count of 17");
+    end(row);
+    let row = b"handles 16 and 17 of a count of 17 | count above 16 as 16";
+    begin(row);
     handle(17, 16);
     handle(17, 17);
-    end(b"count above 16 as 16");
+    end(row);
+}
+
+// The number of the bytes 11h 22h 33h 44h, least first and highest first.
+fn little(width: Width) -> u32 {
+    little_at(&[0x11, 0x22, 0x33, 0x44], 0, width)
+}
+
+fn big(width: Width) -> u32 {
+    big_at(&[0x11, 0x22, 0x33, 0x44], 0, width)
+}
+
+fn three(row: &[u8], byte: u32, word: u32, long: u32) {
+    begin(row);
+    hexadecimal(byte);
+    hexadecimal(word);
+    hexadecimal(long);
+    end(row);
 }
 
 pub(crate) fn byte_orders() {
-    let s = [0x11u8, 0x22, 0x33, 0x44];
-    begin(b"bytes 11h 22h 33h 44h, little-endian over 1, 2, 4");
-    hexadecimal(little_at(&s, 0, Width::Byte));
-    hexadecimal(little_at(&s, 0, Width::Word));
-    hexadecimal(little_at(&s, 0, Width::Long));
-    end(b"Reads and writes are little-endian over 1, 2 or 4 bytes.");
-    begin(b"the same, high byte first");
-    hexadecimal(big_at(&s, 0, Width::Byte));
-    hexadecimal(big_at(&s, 0, Width::Word));
-    hexadecimal(big_at(&s, 0, Width::Long));
-    end(b"cells read high byte first");
-    begin(b"11223344h with the bytes of 1, 2, 4 reversed");
-    hexadecimal(reversed(0x11223344, Width::Byte));
-    hexadecimal(reversed(0x11223344, Width::Word));
-    hexadecimal(reversed(0x11223344, Width::Long));
-    end(b"reverses the bytes of words and longwords");
+    three(
+        b"bytes 11h 22h 33h 44h, little-endian over 1, 2, 4 | Reads and writes are little-endian over 1, 2 or 4 bytes.",
+        little(Width::Byte),
+        little(Width::Word),
+        little(Width::Long),
+    );
+    three(
+        b"the same, high byte first | cells read high byte first",
+        big(Width::Byte),
+        big(Width::Word),
+        big(Width::Long),
+    );
+    three(
+        b"11223344h with the bytes of 1, 2, 4 reversed | reverses the bytes of words and longwords",
+        reversed(0x11223344, Width::Byte),
+        reversed(0x11223344, Width::Word),
+        reversed(0x11223344, Width::Long),
+    );
 }

@@ -1,24 +1,33 @@
 -- Which accesses are accepted, and for which function.
-use Prim.Native.Nat.{ℕ, _+_, _-_, _%_, _≤_}
+use Prim.Native.Nat.{ℕ, _+_, _-_, _%_, _<_, _≤_}
 use native.Mathlib.Omega.{arith}
 use mathlib.Core.Bool.{Bool, true, false, cond, _&&_}
 use mathlib.Core.Path.{_≡_, refl, sym, ap}
 use lib.Dec.{eqb, leb}
 use borrow.Author.Tests.{eqb-true, le-leb, leb-true}
 use Rattle.board.specs.Layout.{registersEach}
+use Rattle.board.specs.Numbers.{bytes}
 use Rattle.board.specs.Statuses.{successful, badRegisterNumber, badHandle}
+use Rattle.board.specs.declared.number.Width.{Width}
+use Rattle.board.specs.declared.number.Width.the-variants.{Byte, Word, Long}
 use Rattle.board.specs.declared.status.Status.{Status}
 use Rattle.board.proofs.Tests.{both-true}
 use Rattle.config.specs.declared.target.Target.the-variants.{Function, Refused}
 use Rattle.config.specs.Target.{fits, target}
 use Rattle.config.specs.Meaning.{InsideRegisters}
 
--- where an aligned access cannot pass the last register, alignment is all that is to be tested
-pub aligned-fits : (w register : ℕ) → (register % w ≡ 0 → register + w ≤ registersEach) → eqb (register % w) 0 ≡ fits w register
-aligned-fits w register h = by (eqb (register % w) 0) refl
+-- an aligned access at a register does not pass the last register
+aligned-inside : (width : Width) (register : ℕ) → register < registersEach → register % bytes width ≡ 0 → register + bytes width ≤ registersEach
+aligned-inside Byte register h e = omega arith
+aligned-inside Word register h e = omega arith
+aligned-inside Long register h e = omega arith
+
+-- so that alignment is all that is to be tested
+pub aligned-fits : (width : Width) (register : ℕ) → register < registersEach → eqb (register % bytes width) 0 ≡ fits (bytes width) register
+aligned-fits width register h = by (eqb (register % bytes width) 0) refl
   where
-    by : (t : Bool) → eqb (register % w) 0 ≡ t → t ≡ (t && leb (register + w) registersEach)
-    by true e = sym (le-leb _ _ (h (eqb-true _ _ e)))
+    by : (t : Bool) → eqb (register % bytes width) 0 ≡ t → t ≡ (t && leb (register + bytes width) registersEach)
+    by true e = sym (le-leb _ _ (aligned-inside width register h (eqb-true _ _ e)))
     by false e = refl
 
 -- an access is accepted for the function of its handle, where the handle is good and the access fits

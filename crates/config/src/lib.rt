@@ -1,5 +1,4 @@
 // Configuration registers, read and written through their masks, and the two searches.
-pub mod calls;
 pub mod read;
 pub mod search;
 pub mod target;

@@ -2,6 +2,7 @@
 use board::handle::is_handle;
 use board::layout::Header;
 use board::number::Width;
+use board::number::is_multiple;
 use board::status::Status;
 ghost use mathlib.Core.Path.{_≡_};
 ghost use Rattle.board.specs.Handles.{isHandle};
@@ -18,11 +19,7 @@ pub enum Target {
 fn fits(register: u8, width: Width) -> bool
     ensures { λ r. ⌜ r ≡ fits (bytes width) register ⌝ }
 {
-    match width {
-        Width::Byte => true,
-        Width::Word => register % 2 == 0,
-        Width::Long => register % 4 == 0,
-    }
+    is_multiple(register as u32, width)
 }
 
 // The function that an access through a handle is for.

@@ -2,4 +2,3 @@
 pub mod Lists
 pub mod Ranges
 pub mod Accepted
-pub mod Trip

@@ -1,16 +1,13 @@
 -- The cells' offsets: each slot's range begins where the one before it ends.
-use Prim.Native.Nat.{ℕ, zero, suc, _+_, _*_, _-_, _/_, _%_, _<_, _≤_}
+use Prim.Native.Nat.{ℕ, zero, suc, _+_, _-_, _/_, _%_, _<_, _≤_}
 use native.Mathlib.Omega.{arith}
 use native.Mathlib.Numerals.{add-one}
 use mathlib.Core.Path.{_≡_, refl, _∙_, ap}
-use mathlib.Core.List.{List}
-use lib.ListN.{length, getD}
-use Rattle.board.specs.Layout.{functionsMax, recordSize, entriesAt, entrySize, bases, windowsMax, exponent}
+use lib.ListN.{getD}
+use Rattle.board.specs.Layout.{bases, windowsMax}
 use Rattle.board.proofs.Tables.{table-get}
-use Rattle.image.specs.Cells.{slotCells, cellsBefore, total, offsetsOf}
-use Rattle.image.specs.Load.{padded}
+use Rattle.image.specs.Cells.{slotCells, cellsBefore, offsetsOf}
 use Rattle.image.specs.Meaning.{CellRanges}
-use Rattle.image.proofs.Lists.{zeros-after}
 
 pub offset-at : (k : ℕ → ℕ → ℕ) (s : ℕ) → s ≤ windowsMax → getD (offsetsOf k) s 0 ≡ cellsBefore k s
 offset-at k s h = let e : 0 + s ≡ s = omega arith in table-get 0 (windowsMax + 1) (cellsBefore k) s (omega arith) ∙ ap (cellsBefore k) e
@@ -20,12 +17,6 @@ pub before-same : (k k′ : ℕ → ℕ → ℕ) (s : ℕ) → ((i : ℕ) → i 
 unfolding cellsBefore
 before-same k k′ zero e = refl
 before-same k k′ (suc s) e = rw (before-same k k′ s (λ i h. e i (omega arith)), e s (omega arith))
-
--- zeros after the records add no cells
-pub padded-total : (records : List ℕ) → total (exponent (padded records)) ≡ total (exponent records)
-padded-total records =
-    before-same (exponent (padded records)) (exponent records) windowsMax
-    (λ i h. zeros-after records (functionsMax * recordSize - length records) (recordSize * (i / bases) + (entriesAt + entrySize * (i % bases) + 0)))
 
 before-none : (k : ℕ → ℕ → ℕ) → cellsBefore k 0 ≡ 0
 unfolding cellsBefore

@@ -3,7 +3,6 @@ pub mod Cells
 pub mod Image
 pub mod Refusals
 pub mod Check
-pub mod Load
 pub mod Write
 pub mod Steps
 pub mod Meaning

@@ -1,21 +1,16 @@
 // The check of a board image, without a board.
-use board::layout::BASES;
-use board::layout::ENTRIES;
-use board::layout::ENTRY;
+use crate::cells::total_of;
 use board::layout::FUNCTIONS;
 use board::layout::RECORD;
-use board::layout::WINDOWS;
 use board::number::Width;
 use board::number::big_at;
-use board::number::byte_at;
-use board::number::power;
 use board::number::wide;
 use record::rules::record_ok;
 ghost use mathlib.Core.Path.{_≡_};
 ghost use Prim.Native.Nat.{_*_, _<_, _≤_};
 ghost use lib.ListN.{length};
-ghost use Rattle.board.specs.Layout.{functionsMax, recordSize, windowsMax, exponent};
-ghost use Rattle.image.specs.Cells.{cellCount, slotCells, total};
+ghost use Rattle.board.specs.Layout.{functionsMax, recordSize, exponent};
+ghost use Rattle.image.specs.Cells.{total};
 ghost use Rattle.image.specs.Image.{imageSize, trailerSize, recordAt, sum};
 ghost use Rattle.image.specs.Refusals.{firstBad};
 ghost use Rattle.image.specs.Steps.{formRefusal, cellsVerdict, recordsVerdict};
@@ -73,43 +68,6 @@ fn first_bad(records: &[u8], count: usize) -> usize
         i += 1;
     }
     i
-}
-
-// The cells of a window of length exponent k.
-fn cell_count(k: u8) -> u32
-    ensures { λ r. ⌜ r ≡ cellCount k ⌝ }
-    ensures { λ r. ⌜ r ≤ 65536 ⌝ }
-{
-    if k < 2 {
-        return 0;
-    }
-    if 16 < k {
-        return 0;
-    }
-    power(k as u32) as u32
-}
-
-// The cells of slot s: base register s % 6 of function s / 6.
-pub(crate) fn slot_cells(records: &[u8], s: usize) -> u32
-    requires { ⌜ s < windowsMax ⌝ }
-    ensures { λ r. ⌜ r ≡ slotCells (exponent (now (records .entry))) s ⌝ }
-    ensures { λ r. ⌜ r ≤ 65536 ⌝ }
-{
-    let at = RECORD * (s / BASES) + (ENTRIES as usize + ENTRY as usize * (s % BASES));
-    cell_count(byte_at(records, at))
-}
-
-// The cells of all windows.
-fn total_of(records: &[u8]) -> u32
-    ensures { λ r. ⌜ r ≡ total (exponent (now (records .entry))) ⌝ }
-{
-    let mut t = 0;
-    let mut s = 0;
-    while s < WINDOWS {
-        t += slot_cells(records, s);
-        s += 1;
-    }
-    t
 }
 
 // Refusals 2 to 4 of an image that has a trailer; 0 for none.

@@ -1,4 +1,4 @@
-// Board images: the check, load, reset and the writer.
+// Board images: the check and the writer, and the cells that an image asks for.
+pub mod cells;
 pub mod check;
-pub mod load;
 pub mod write;

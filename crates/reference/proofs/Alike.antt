@@ -16,8 +16,9 @@ use Rattle.access.specs.Cells.{cellsAfter}
 use Rattle.access.specs.declared.place.Place.the-variants.{At}
 use Rattle.access.proofs.Cells.{only-its-cells}
 use Rattle.image.specs.Cells.{zeroed}
-use Rattle.image.proofs.Lists.{zeroed-length, zeroed-past}
+use Rattle.load.proofs.Lists.{zeroed-length, zeroed-past}
 use Rattle.reference.specs.Claims.{accessed, Alike}
+use Rattle.reference.proofs.Tests.{ifEither}
 
 pub alike : (t : ℕ → Bool) (l : List ℕ) → Alike t l l
 alike t l = record { room = refl; same = λ i e. refl }
@@ -57,11 +58,8 @@ front-alike n image own e h =
 
 -- a cell that is not one of the w cells of an access stands before or after them
 outside : (at w j : ℕ) → (leb at j && ltb j (at + w)) ≡ false → (j < at) ⊎ (at + w ≤ j)
-outside at w j = by (leb at j) refl
-  where
-    by : (t : Bool) → leb at j ≡ t → (t && ltb j (at + w)) ≡ false → (j < at) ⊎ (at + w ≤ j)
-    by true e f = inr (ltb-false j (at + w) f)
-    by false e f = inl (leb-false at j e)
+outside at w j h =
+    ifEither (leb at j) (λ e. inr (ltb-false j (at + w) (rw e at h))) (λ e. inl (leb-false at j e))
 
 pub written-alike : (order w at value : ℕ) (cells : List ℕ) → Alike (accessed w (At at order)) (cellsAfter order w at value cells) cells
 written-alike order w at value cells =

@@ -21,8 +21,9 @@ use Rattle.access.specs.Orders.{placed}
 use Rattle.access.specs.declared.find.Finding.{Finding}
 use Rattle.access.specs.declared.find.Finding.the-variants.{Found, BadHandle, ShortCells, NotAligned, Nothing, Contested, WidthMissing}
 use Rattle.access.specs.declared.find.Space.{Space}
+use Rattle.access.proofs.Searches.{held}
 use Rattle.image.specs.Cells.{offsetsOf}
-use Rattle.image.specs.Load.{padded}
+use Rattle.load.specs.Load.{padded}
 use Rattle.image.proofs.Ranges.{offset-at, cell-ranges}
 use Rattle.reference.specs.declared.Call.the-variants.{ReadData, FastReadData, WriteData, BusToCpu, CpuToBus}
 use Rattle.reference.specs.State.{step}
@@ -31,7 +32,7 @@ use Rattle.reference.specs.Run.{partsOf}
 use Rattle.reference.proofs.Tests.{ifBoth, ifAt}
 use Rattle.reference.proofs.Registers.{kept-byte}
 use Rattle.reference.proofs.Sound.{Sound, Simulated, as-told, count-same}
-use Rattle.reference.proofs.InSlot.{held, in-window}
+use Rattle.reference.proofs.InSlot.{in-window}
 
 -- a search asks only base registers below 6 whether they offer the width
 in-list-same : (f g : ℕ → Bool) (space handle address : ℕ) → ((c : ℕ) → c < bases → f c ≡ g c) → (l : List Window)

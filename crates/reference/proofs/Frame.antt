@@ -6,7 +6,7 @@ use mathlib.Core.Path.{_≡_, refl, sym, _∙_, ap}
 use mathlib.Core.List.{List}
 use lib.Dec.{ltb, eqb, eqb·suc-suc}
 use lib.ListN.{length, length-append}
-use borrow.Author.Tests.{ltb-false, eqb-true}
+use borrow.Author.Tests.{ltb-false}
 use Rattle.board.specs.Parts.{Parts}
 use Rattle.board.specs.Layout.{functionsMax, registersEach, markSize}
 use Rattle.board.specs.Numbers.{bytes}
@@ -15,7 +15,6 @@ use Rattle.access.specs.Find.{spaceNumber}
 use Rattle.image.specs.Cells.{total}
 use Rattle.image.specs.Image.{imageSize, sum, trailer}
 use Rattle.image.proofs.Lists.{trailer-length}
-use Rattle.image.proofs.Accepted.{accepted-image}
 use Rattle.reference.specs.declared.Answer.{Answer}
 use Rattle.reference.specs.declared.Call.{Call}
 use Rattle.reference.specs.declared.Call.the-variants.{Load, Reset, WriteImage, FindPciDevice, FindPciClasscode, ReadConfig, FastReadConfig, WriteConfig, ReadData, FastReadData, WriteData, BusToCpu, CpuToBus, ListWindow}
@@ -26,7 +25,7 @@ use Rattle.reference.specs.Claims.{Touch, none, every, touch, addressed,
 use Rattle.reference.proofs.Tests.{ifTest, ifTarget, ifAt}
 use Rattle.reference.proofs.Alike.{alike, touched, zeroed-alike, table-alike, front-alike, written-alike}
 use Rattle.reference.proofs.Records.{joined-length}
-use Rattle.reference.proofs.Same.{image-total, verdict-same}
+use Rattle.reference.proofs.Same.{accepted-whole}
 use Rattle.reference.proofs.Sound.{Sound}
 use Rattle.reference.proofs.Configuration.{left, follows, writes}
 use Rattle.reference.proofs.Simulation.{same, sound-start, start-same}
@@ -69,8 +68,6 @@ module _ (b : Reference) (s : Sound b) (own : List ℕ) where
   stays-load =
       ifTest (Stays (mayTouch b Load own) b own) (eqb (verdict own (length (b .cells)) .number) 0)
       (λ e.
-      let z = eqb-true (verdict own (length (b .cells)) .number) 0 e in
-      let a = accepted-image own (length (b .cells)) (rw (verdict-same own (length (b .cells))) z) in
       record {
         header = λ t. touched t;
         records = λ t. touched t;
@@ -79,7 +76,7 @@ module _ (b : Reference) (s : Sound b) (own : List ℕ) where
         list = λ t. touched t;
         hooks = λ t. touched t;
         used = table-alike every (functionsMax * markSize) _ _ (λ j u. touched u);
-        cells = zeroed-alike _ (b .cells) (rw (image-total own) (a .fine .fits));
+        cells = zeroed-alike _ (b .cells) (accepted-whole own (length (b .cells)) e .fits);
         own = alike _ own;
       })
       (λ e. keeps (mayTouch b Load own) b own _)

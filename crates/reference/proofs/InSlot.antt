@@ -1,26 +1,27 @@
 -- Where an accepted access stands: in the cells of one window of its function.
 use Prim.Native.Nat.{ℕ, _+_, _*_, _-_, _/_, _%_, _^_, _<_, _≤_}
 use native.Mathlib.Omega.{arith}
-use native.Mathlib.Nat.{mul-assoc}
+use native.Mathlib.Nat.{mul-left-comm}
 use mathlib.Core.Bool.{true, false≢true}
-use mathlib.Core.Path.{_≡_, refl, sym, _∙_, ap}
-use lib.Dec.{eqb, leb, ltb}
+use mathlib.Core.Path.{_≡_, refl, _∙_, ap}
+use lib.Dec.{leb}
 use lib.ListN.{length}
-use lib.Pow.{pow-add, split}
-use borrow.Author.Tests.{leb-true, ltb-true, eqb-true}
+use lib.Pow.{split}
+use borrow.Author.Tests.{leb-true}
 use Rattle.board.specs.Layout.{bases, command}
 use Rattle.board.specs.Numbers.{bytes}
 use Rattle.board.specs.declared.number.Width.{Width}
 use Rattle.board.specs.declared.number.Width.the-variants.{Byte, Word, Long}
+use Rattle.board.proofs.Numbers.{power-fours}
 use Rattle.board.proofs.Tests.{both-true}
-use Rattle.window_list.specs.Windows.{Window, end, startOf, isOpen}
+use Rattle.window_list.specs.Windows.{Window, startOf, isOpen}
 use Rattle.window_list.specs.Meaning.{OpenAt}
 use Rattle.window_list.proofs.Meaning.{means}
-use Rattle.access.specs.Find.{holds}
 use Rattle.access.specs.Orders.{placed}
 use Rattle.access.specs.declared.find.Finding.{Finding}
 use Rattle.access.specs.declared.find.Finding.the-variants.{Found, BadHandle, ShortCells, NotAligned, Nothing, Contested, WidthMissing}
 use Rattle.access.specs.declared.place.Place.the-variants.{At}
+use Rattle.access.proofs.Searches.{Held, held}
 use Rattle.access.proofs.Windows.{found-means, inside-window}
 use Rattle.image.specs.Cells.{cellCount, slotCells, cellsBefore}
 use Rattle.reference.specs.Reference.{Reference, entryOf, exponentOf, windowsOf, findFor, placeIn, placeFor}
@@ -50,9 +51,7 @@ aligned Long address m h = omega arith
 
 start-fours : (k x : ℕ) → 2 ≤ k → startOf k x ≡ 4 * (x / 2 ^ k * 2 ^ (k - 2))
 start-fours k x h =
-    let e : k - 2 + 2 ≡ k = omega arith in
-    let p : x / 2 ^ k * 2 ^ k ≡ x / 2 ^ k * 2 ^ (k - 2) * 4 =
-    ap (λ (n : ℕ). x / 2 ^ k * 2 ^ n) (sym e) ∙ ap (λ (n : ℕ). x / 2 ^ k * n) (pow-add 2 (k - 2) 2) ∙ sym (mul-assoc (x / 2 ^ k) (2 ^ (k - 2)) 4) in
+    let p : x / 2 ^ k * 2 ^ k ≡ 4 * (x / 2 ^ k * 2 ^ (k - 2)) = ap (λ (n : ℕ). x / 2 ^ k * n) (power-fours k h) ∙ mul-left-comm (x / 2 ^ k) 4 (2 ^ (k - 2)) in
     omega (arith, split x k, p)
 
 -- the cells of base register c of the function at place i
@@ -71,25 +70,6 @@ inside-open width order k x c address o l h a =
     let two = leb-true 2 k (low .0) in
     let d : (address - startOf k x) % bytes width ≡ 0 = rw (start-fours k x two) (aligned width address _ a) in
     rw (low .0, high .0) (inside-window order width k (address - startOf k x) two (omega arith) d)
-
--- what a window that holds an address of a handle has
-pub record Held (handle address : ℕ) (v : Window) : Type 0 where
-  pub own : v .handle ≡ handle
-  pub six : v .base < bases
-  pub from : v .start ≤ address
-  pub to : address < end v
-
-pub held : (space handle address : ℕ) (v : Window) → holds space handle address v ≡ true → Held handle address v
-held space handle address v h =
-    let own = both-true (eqb (v .handle) handle) _ (both-true (eqb (v .space) space) _ h .1) in
-    let six = both-true (ltb (v .base) bases) _ (own .1) in
-    let inside = both-true (leb (v .start) address) (ltb address (end v)) (six .1) in
-    record {
-      own = eqb-true (v .handle) handle (own .0);
-      six = ltb-true (v .base) bases (six .0);
-      from = leb-true (v .start) address (inside .0);
-      to = ltb-true address (end v) (inside .1);
-    }
 
 window-inside : (width : Width) (order count : ℕ) (k r : ℕ → ℕ → ℕ) (v : Window) (handle address : ℕ) → OpenAt count k r v → Held handle address v
     → address % bytes width ≡ 0 → placed order (bytes width) (address - v .start) + bytes width ≤ slotCells k (bases * (handle - 1) + v .base)

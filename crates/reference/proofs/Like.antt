@@ -1,7 +1,6 @@
 -- Reference states that differ in the cells of one function's windows alone, and in bytes past the total.
 use Prim.Native.Nat.{ℕ, zero, suc, _+_, _*_, _-_, _%_, _<_, _≤_}
 use native.Mathlib.Omega.{arith}
-use mathlib.Core.Bool.{Bool, true, false}
 use mathlib.Core.Logic.{_⊎_, inl, inr}
 use mathlib.Core.Path.{_≡_, refl, sym, _∙_, ap, subst⁻¹}
 use mathlib.Core.List.{List, [], _∷_}
@@ -18,6 +17,7 @@ use Rattle.access.proofs.Cells.{only-its-cells}
 use Rattle.image.specs.Cells.{slotCells, cellsBefore, total, zeroed}
 use Rattle.image.proofs.Ranges.{before-apart}
 use Rattle.reference.specs.Reference.{Reference, exponentOf, withCellsOf}
+use Rattle.reference.proofs.Tests.{ifEither}
 use Rattle.reference.proofs.InSlot.{InSlot}
 
 -- two cell buffers of a length, equal in the cells of every window that is not of handle h
@@ -71,11 +71,9 @@ below-total k i b o f s h = omega (arith, before-apart k (bases * i + b) windows
 -- a cell of one slot is before or after an access in another
 slots-apart : (k : ℕ → ℕ → ℕ) (s t o d w : ℕ) → (s ≡ t → ⊥) → o < slotCells k s → d + w ≤ slotCells k t
     → (cellsBefore k s + o < cellsBefore k t + d) ⊎ (cellsBefore k t + d + w ≤ cellsBefore k s + o)
-slots-apart k s t o d w n h f = by (ltb s t) refl
-  where
-    by : (x : Bool) → ltb s t ≡ x → (cellsBefore k s + o < cellsBefore k t + d) ⊎ (cellsBefore k t + d + w ≤ cellsBefore k s + o)
-    by true e = inl (omega (arith, before-apart k s t (ltb-true s t e)))
-    by false e = inr (omega (arith, before-apart k t s (omega (arith, ltb-false s t e))))
+slots-apart k s t o d w n h f =
+    ifEither (ltb s t) (λ e. inl (omega (arith, before-apart k s t (ltb-true s t e))))
+    (λ e. inr (omega (arith, before-apart k t s (omega (arith, ltb-false s t e)))))
 
 module _ {h : ℕ} (rs : List (List ℕ)) (l m : List ℕ) where
   -- the same write into both

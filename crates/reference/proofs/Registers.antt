@@ -16,8 +16,8 @@ use Rattle.window_list.specs.Windows.{listOf, windowList}
 use Rattle.window_list.proofs.Meaning.{list-same}
 use Rattle.config.specs.Write.{bytesWritten}
 use Rattle.config.proofs.Written.{masked-write}
-use Rattle.image.specs.Load.{padded}
-use Rattle.image.proofs.Lists.{zeros-after}
+use Rattle.load.specs.Load.{padded}
+use Rattle.load.proofs.Lists.{zeros-after}
 use Rattle.reference.specs.Reference.{Reference, recordOf, exponentOf, joined, registersAfter}
 use Rattle.reference.proofs.Records.{Sized, joined-byte}
 

@@ -2,9 +2,12 @@
 use Prim.Native.Nat.{ℕ, _+_, _*_, _-_, _/_, _%_, _<_, _≤_}
 use native.Mathlib.Omega.{arith}
 use native.Mathlib.Nat.{min-le-left}
+use mathlib.Core.Bool.{true}
 use mathlib.Core.Path.{_≡_, refl, sym}
 use mathlib.Core.List.{List, [], _∷_}
+use lib.Dec.{eqb}
 use lib.ListN.{length, drop, replicate, length-take}
+use borrow.Author.Tests.{eqb-true}
 use Rattle.board.specs.Numbers.{byteAt}
 use Rattle.board.specs.Tables.{tableFrom, table, filledUp}
 use Rattle.board.specs.Layout.{functionsMax, bases, windowsMax, recordSize, entriesAt, entrySize, registersEach, hookSize, markSize, exponent}
@@ -12,9 +15,9 @@ use Rattle.board.proofs.Tables.{table-same}
 use Rattle.image.specs.Cells.{total, cellsBefore, offsetsOf}
 use Rattle.image.specs.Image.{imageSize, countOf, recordsOf, recordAt}
 use Rattle.image.specs.Check.{factsOf, checked}
-use Rattle.image.specs.Load.{padded, registersOf, restarted, installed}
+use Rattle.load.specs.Load.{padded, registersOf, restarted, installed}
 use Rattle.image.proofs.Ranges.{offset-at, before-same}
-use Rattle.image.proofs.Accepted.{Accepted, records-length}
+use Rattle.image.proofs.Accepted.{accepted-image, records-length}
 use Rattle.reference.specs.Reference.{recordOf, exponentOf, joined, fresh, imageRecords, imageFacts, verdict}
 use Rattle.reference.specs.Run.{numbers, lineByLine, markNumber, partsOf}
 use Rattle.reference.proofs.Records.{Sized, split-length, split-sized, split-joined, split-byte, split-record, bad-same}
@@ -58,7 +61,7 @@ image-exponent image i b h =
     let e : entriesAt + entrySize * b + 0 ≡ entriesAt + entrySize * b = omega arith in
     rw e (split-byte (countOf image) (recordsOf image) i (entriesAt + entrySize * b) (records-few image) (omega arith))
 
-pub image-total : (image : List ℕ) → total (exponentOf (imageRecords image)) ≡ total (exponent (recordsOf image))
+image-total : (image : List ℕ) → total (exponentOf (imageRecords image)) ≡ total (exponent (recordsOf image))
 image-total image =
     before-same (exponentOf (imageRecords image)) (exponent (recordsOf image)) windowsMax
     (λ i h. image-exponent image (i / bases) (i % bases) (omega arith))
@@ -76,20 +79,23 @@ pub verdict-same : (image : List ℕ) (room : ℕ) → checked image room ≡ ve
 unfolding checked verdict
 verdict-same image room = rw (facts-same image)
 
--- the records of an accepted image, one by one
-pub record Whole (image : List ℕ) : Type 0 where
+-- the records, one by one, of an image that the reference machine accepts with so many cells lent
+pub record Whole (image : List ℕ) (room : ℕ) : Type 0 where
   pub few : length (imageRecords image) ≤ functionsMax
   pub sized : Sized (imageRecords image)
   pub bytes : joined (imageRecords image) ≡ recordsOf image
+  pub fits : total (exponentOf (imageRecords image)) ≤ room
 
-pub whole : (image : List ℕ) (room : ℕ) → Accepted image room → Whole image
-whole image room a =
+pub accepted-whole : (image : List ℕ) (room : ℕ) → eqb (verdict image room .number) 0 ≡ true → Whole image room
+accepted-whole image room e =
+    let a = accepted-image image room (rw (verdict-same image room) (eqb-true (verdict image room .number) 0 e)) in
     let n = countOf image in
-    let e = records-length image room a in
+    let l = records-length image room a in
     record {
       few = rw (split-length n (recordsOf image)) (a .fine .few);
-      sized = split-sized n (recordsOf image) (omega (arith, e));
-      bytes = split-joined n (recordsOf image) e;
+      sized = split-sized n (recordsOf image) (omega (arith, l));
+      bytes = split-joined n (recordsOf image) l;
+      fits = rw (image-total image) (a .fine .fits);
     }
 
 installed-as : (image cells : List ℕ) (rs : List (List ℕ)) → countOf image ≡ length rs → recordsOf image ≡ joined rs → Sized rs
@@ -97,6 +103,6 @@ installed-as : (image cells : List ℕ) (rs : List (List ℕ)) → countOf image
 installed-as image cells rs n l s f =
     rw (l, n, offsets-same (exponent (padded (joined rs))) (exponentOf rs) (λ i b h. kept-exponent rs s i b h)) (restart-same rs s cells f)
 
-pub installed-same : (image cells : List ℕ) → Whole image → installed image cells ≡ partsOf (fresh (imageRecords image) cells)
+pub installed-same : (image cells : List ℕ) → Whole image (length cells) → installed image cells ≡ partsOf (fresh (imageRecords image) cells)
 installed-same image cells w =
     installed-as image cells (imageRecords image) (sym (split-length (countOf image) (recordsOf image))) (sym (w .bytes)) (w .sized) (w .few)

@@ -18,14 +18,13 @@ use Rattle.access.specs.declared.place.Place.{Place}
 use Rattle.access.specs.declared.place.Place.the-variants.{At, Refused as NoPlace}
 use Rattle.image.specs.Cells.{total}
 use Rattle.image.specs.Image.{imageSize}
-use Rattle.image.proofs.Accepted.{accepted-image}
 use Rattle.reference.specs.declared.Answer.{Answer}
 use Rattle.reference.specs.declared.Call.{Call}
 use Rattle.reference.specs.declared.Call.the-variants.{Load, Reset, WriteImage, FindPciDevice, FindPciClasscode, ReadConfig, FastReadConfig, WriteConfig, ReadData, FastReadData, WriteData, BusToCpu, CpuToBus, ListWindow}
 use Rattle.reference.specs.Reference.{Reference, Told, told, exponentOf, fresh, imageRecords, verdict, targetOf, withCellsOf, placeIn, placeFor, writeOf, writeDataOf, referenceStep}
 use Rattle.reference.specs.Claims.{struckOut}
 use Rattle.reference.proofs.Tests.{ifBoth}
-use Rattle.reference.proofs.Same.{verdict-same, whole}
+use Rattle.reference.proofs.Same.{accepted-whole}
 use Rattle.reference.proofs.InSlot.{InSlot, in-slot}
 use Rattle.reference.proofs.Like.{Like, by-cells, others-written, others-zeroed, others-hidden, value-same}
 
@@ -86,9 +85,7 @@ module _ {h : ℕ} (b : Reference) (m : List ℕ) (l : Like h b (withCellsOf m b
       let room = length (b .cells) in
       rw (← l .others .room)
       (ifBoth (Both h) (eqb (verdict own room .number) 0)
-      (λ e.
-      let a = accepted-image own room (rw (verdict-same own room) (eqb-true (verdict own room .number) 0 e)) in
-      both-told (renewed (imageRecords own) (whole own room a .few)))
+      (λ e. both-told (renewed (imageRecords own) (accepted-whole own room e .few)))
       (λ e. both-told l))
 
   seen-reset : Seen Reset

@@ -1,13 +1,11 @@
 -- One call: the program's step on the parts of a reference state is the reference machine's step.
 use Prim.Native.Nat.{ℕ, _+_, _*_, _-_, _≤_}
 use native.Mathlib.Omega.{arith}
-use mathlib.Core.Path.{_≡_, refl}
-use mathlib.Core.List.{List, []}
+use mathlib.Core.Path.{_≡_, refl, ap}
+use mathlib.Core.List.{List, [], _++_}
 use lib.Dec.{ltb, eqb}
-use lib.IntN.{pos}
-use lib.ListN.{length, replicate}
+use lib.ListN.{length, replicate, drop}
 use lib.Seq.{take-at}
-use borrow.Author.Tests.{eqb-true}
 use Rattle.board.specs.Tables.{tableFrom}
 use Rattle.board.specs.Layout.{functionsMax, recordSize, registersEach, windowsMax}
 use Rattle.board.proofs.Tables.{table-constant}
@@ -17,21 +15,19 @@ use Rattle.window_list.proofs.KeptArray.{kept-of}
 use Rattle.window_list.proofs.Answers.{number-is, values-are}
 use Rattle.image.specs.Cells.{cellsBefore, total, offsetsOf}
 use Rattle.image.specs.Image.{imageSize, imageOf}
-use Rattle.image.specs.Load.{Loaded, ResetOutcome, padded, load, reset}
-use Rattle.image.specs.Write.{Written, write}
-use Rattle.image.proofs.Lists.{zeroed-length}
+use Rattle.load.specs.Load.{padded, load, reset}
+use Rattle.image.specs.Write.{write}
+use Rattle.load.proofs.Lists.{zeroed-length}
 use Rattle.image.proofs.Ranges.{offset-at}
-use Rattle.image.proofs.Accepted.{accepted-image}
 use Rattle.reference.specs.declared.Call.{Call}
 use Rattle.reference.specs.declared.Call.the-variants.{Load, Reset, WriteImage, FindPciDevice, FindPciClasscode, ReadConfig, FastReadConfig, WriteConfig, ReadData, FastReadData, WriteData, BusToCpu, CpuToBus, ListWindow}
-use Rattle.reference.specs.Answers.{answer, zeros, ofStatus, ofVerdict}
-use Rattle.reference.specs.State.{next, step}
+use Rattle.reference.specs.State.{step}
 use Rattle.reference.specs.Reference.{Reference, exponentOf, joined, fresh, imageRecords, windowsOf, imageBytes, verdict, referenceStep, referenceStart}
 use Rattle.reference.specs.Run.{partsOf, start}
-use Rattle.reference.proofs.Tests.{ifBoth}
+use Rattle.reference.proofs.Tests.{ifEither}
 use Rattle.reference.proofs.Records.{Sized, joined-length}
-use Rattle.reference.proofs.Same.{image-total, verdict-same, whole, installed-same, restart-same, no-hooks, no-marks}
-use Rattle.reference.proofs.Sound.{Sound, Same, Simulated, as-told, count-same}
+use Rattle.reference.proofs.Same.{verdict-same, accepted-whole, installed-same, restart-same, no-hooks, no-marks}
+use Rattle.reference.proofs.Sound.{Sound, Simulated, as-told, count-same}
 use Rattle.reference.proofs.Configuration.{same-device, same-class, same-read, same-fast-read, same-write-config}
 use Rattle.reference.proofs.Data.{same-read-data, same-fast-read-data, same-write-data, same-bus-to-cpu, same-cpu-to-bus}
 
@@ -45,33 +41,29 @@ module _ (b : Reference) (s : Sound b) where
   unfolding step referenceStep load partsOf
   same-load own =
       rw (verdict-same own (length (b .cells)))
-      (ifBoth (λ (w : Loaded) t. Same (next (ofVerdict (w .verdict)) (w .parts) own) t) (eqb (verdict own (length (b .cells)) .number) 0)
+      (ifEither (eqb (verdict own (length (b .cells)) .number) 0)
       (λ e.
-      let z = eqb-true (verdict own (length (b .cells)) .number) 0 e in
-      let a = accepted-image own (length (b .cells)) (rw (verdict-same own (length (b .cells))) z) in
-      let w = whole own (length (b .cells)) a in
-      record {
+      let w = accepted-whole own (length (b .cells)) e in
+      rw e (record {
         answer = refl;
         parts = installed-same own (b .cells) w;
         own = refl;
-        sound = fresh-sound (imageRecords own) (b .cells) (w .few) (w .sized) (rw (image-total own) (a .fine .fits));
-      })
-      (λ e. as-told b s))
+        sound = fresh-sound (imageRecords own) (b .cells) (w .few) (w .sized) (w .fits);
+      }))
+      (λ e. rw e (as-told b s)))
 
   same-reset : (own : List ℕ) → Simulated b Reset own
   unfolding step referenceStep reset partsOf
   same-reset own =
       rw (offset-at (exponentOf (b .records)) windowsMax (omega arith))
-      (ifBoth (λ (w : ResetOutcome) t. Same (next (ofStatus (w .status)) (w .parts) own) t)
-      (ltb (length (b .cells)) (total (exponentOf (b .records))))
-      (λ e. as-told b s)
-      (λ e.
-      record {
+      (ifEither (ltb (length (b .cells)) (total (exponentOf (b .records))))
+      (λ e. rw e (as-told b s))
+      (λ e. rw e (record {
         answer = refl;
         parts = restart-same (b .records) (s .sized) (b .cells) (s .few);
         own = refl;
         sound = fresh-sound (b .records) (b .cells) (s .few) (s .sized) (s .fits);
-      }))
+      })))
 
   image-same : imageOf (length (b .records)) (padded (joined (b .records))) ≡ imageBytes (b .records)
   image-same =
@@ -81,14 +73,12 @@ module _ (b : Reference) (s : Sound b) where
   same-write : (own : List ℕ) → Simulated b WriteImage own
   unfolding step referenceStep write partsOf
   same-write own =
-      rw (count-same b s, image-same)
-      (ifBoth (λ (w : Written) t. Same (next (answer (pos (w .number)) zeros) (partsOf b) (w .out)) t)
-      (ltb (length own) (imageSize (length (b .records))))
-      (λ e. as-told b s)
+      rw (count-same b s)
+      (ifEither (ltb (length own) (imageSize (length (b .records))))
+      (λ e. rw e (as-told b s))
       (λ e.
-      ifBoth (λ (w : Written) t. Same (next (answer (pos (w .number)) zeros) (partsOf b) (w .out)) t) (eqb (length (b .records)) 0)
-      (λ z. as-told b s)
-      (λ z. as-told b s)))
+      ifEither (eqb (length (b .records)) 0) (λ z. rw (e, z) (as-told b s))
+      (λ z. rw (e, z) (record { answer = refl; parts = refl; own = ap (λ l. l ++ drop (imageSize (length (b .records))) own) image-same; sound = s }))))
 
   same-list : (n : ℕ) (own : List ℕ) → Simulated b (ListWindow n) own
   unfolding step referenceStep partsOf

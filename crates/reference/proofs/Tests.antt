@@ -1,4 +1,4 @@
--- A choice taken apart: of one term, of two terms that make the same test, of what a configuration access is for, and of where a data access stands.
+-- A choice taken apart: of one term, of two terms that make the same test, of a test by itself, of what a configuration access is for, and of where a data access stands.
 use Prim.Native.Nat.{ℕ, _+_, _-_, _%_, _<_, _≤_}
 use native.Mathlib.Omega.{arith}
 use mathlib.Core.Bool.{Bool, true, false, cond, _&&_}
@@ -23,6 +23,11 @@ pub ifBoth : {A B : Type 0} (P : A → B → Type 0) (t : Bool) {x y : A} {x′ 
     → P (cond t x y) (cond t x′ y′)
 ifBoth P true p q = p refl
 ifBoth P false p q = q refl
+
+-- a test came out one way or the other: what is proved need not be said of the term that makes it
+pub ifEither : {X : Type 0} (t : Bool) → (t ≡ true → X) → (t ≡ false → X) → X
+ifEither true f g = f refl
+ifEither false f g = g refl
 
 -- an accepted access is for the function of its handle, and inside its registers
 pub ifTarget : (P : Target → Type 0) (count w handle register : ℕ)

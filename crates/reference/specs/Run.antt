@@ -9,7 +9,7 @@ use Rattle.board.specs.Parts.{Parts, parts}
 use Rattle.board.specs.Layout.{functionsMax, recordSize, registersEach, windowsMax, hookSize, markSize}
 use Rattle.window_list.specs.Kept.{keptList}
 use Rattle.image.specs.Cells.{offsetsOf}
-use Rattle.image.specs.Load.{padded}
+use Rattle.load.specs.Load.{padded}
 use Rattle.reference.specs.declared.Answer.{Answer}
 use Rattle.reference.specs.declared.Call.{Call}
 use Rattle.reference.specs.State.{Next, step}

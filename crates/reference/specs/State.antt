@@ -14,7 +14,7 @@ use Rattle.config.specs.Write.{writeConfig}
 use Rattle.access.specs.Convert.{busToCpu, cpuToBus}
 use Rattle.access.specs.Data.{readData, fastReadData, writeData}
 use Rattle.access.specs.Find.{spaceNumber}
-use Rattle.image.specs.Load.{load, reset}
+use Rattle.load.specs.Load.{load, reset}
 use Rattle.image.specs.Write.{write}
 use Rattle.reference.specs.declared.Answer.{Answer}
 use Rattle.reference.specs.declared.Call.{Call}

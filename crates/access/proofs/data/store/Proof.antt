@@ -5,7 +5,8 @@ use native.Mathlib.Nat.{div-one}
 use lib.ListN.{length, drop, length-set}
 use lib.Seq.{sets}
 use Rattle.board.specs.Numbers.{reversed, bigBytes}
-use Rattle.access.proofs.Stores.{store-none, store-more, store-end, store-rest}
+use Rattle.board.proofs.Numbers.{digit-less}
+use Rattle.access.proofs.Stores.{store-none, store-more, store-end}
 use borrow.Author.Needs.{needs}
 use native.Mathlib.Omega.{arith}
 use Rattle.access.proofs.data.store.Statement.{statement}
@@ -53,7 +54,7 @@ loop-again c =
     let e = l .inv .1 .0 in (
       omega arith,
       (
-        rw e (store-rest _ _ (l .i)),
+        rw e (digit-less _ (l .i)),
         (
           rw (d .put-byte .ensures) (simp length-set (l .inv .1 .1 .0)),
           rw (d .put-byte .ensures, e) (sym (store-more _ _ _ (l .i) (l .cells) h) ∙ l .inv .1 .1 .1),

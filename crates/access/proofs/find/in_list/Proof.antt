@@ -6,7 +6,7 @@ use Rattle.board.specs.Layout.{widths}
 use Rattle.board.specs.Numbers.{bytes}
 use Rattle.window_list.specs.Kept.{unpack, unpacked}
 use Rattle.access.specs.Find.{spaceNumber, offers, inList}
-use Rattle.access.proofs.Searches.{holds-range, list-none, list-here, list-on, list-end}
+use Rattle.access.proofs.Searches.{held, list-none, list-here, list-on, list-end}
 use borrow.Author.Needs.{needs}
 use Rattle.access.proofs.find.in_list.Statement.{statement}
 use Rattle.access.proofs.find.in_list.Tie as tie
@@ -46,7 +46,8 @@ judged-requires : tie.Need-judged-requires Inv-loop μ-loop
 judged-requires c κs =
     let a = c .before .before .before .before .before .before .before .before .args in
     let j = c .before .before .before .before .before .before .loop .j in
-    holds-range (spaceNumber (a .space)) (a .handle) (a .address) (unpack (getD (a .list .now) j 0)) (sym (c .before .holds .ensures) ∙ c .if2 .taken)
+    let h = held (spaceNumber (a .space)) (a .handle) (a .address) (unpack (getD (a .list .now) j 0)) (sym (c .before .holds .ensures) ∙ c .if2 .taken) in
+    (h .from, h .to)
 
 returns-2 : tie.Need-returns-2 Inv-loop μ-loop
 returns-2 c =

@@ -22,27 +22,21 @@ sub-cells-at c =
 cells-at-requires : tie.Need-cells-at-requires
 cells-at-requires c κs = search needs
 
--- /work/w5/target/rlib/board.rlib/interface/lang/src/status.rt:10:33
 enum-told : tie.Need-enum-told
 enum-told c = search needs
 
--- /work/w5/target/rlib/board.rlib/interface/lang/src/status.rt:8:39
 enum-told-2 : tie.Need-enum-told-2
 enum-told-2 c = search needs
 
--- /work/w5/target/rlib/board.rlib/interface/lang/src/status.rt:9:36
 enum-told-3 : tie.Need-enum-told-3
 enum-told-3 c = search needs
 
--- /work/w5/target/rlib/board.rlib/interface/lang/src/status.rt:9:36
 enum-told-4 : tie.Need-enum-told-4
 enum-told-4 c = search needs
 
--- /work/w5/target/rlib/board.rlib/interface/lang/src/status.rt:9:36
 enum-told-5 : tie.Need-enum-told-5
 enum-told-5 c = search needs
 
--- /work/w5/target/rlib/board.rlib/interface/lang/src/status.rt:4:41
 enum-told-6 : tie.Need-enum-told-6
 enum-told-6 c = search needs
 

@@ -1,22 +1,16 @@
--- `bios_find_pci_device`: the number of the search.
-use denote.Ref.{now}
-use Rattle.bios.proofs.Found.{found-small}
-use Rattle.bios.proofs.Signed.{back}
+-- `bios_find_pci_device`: the number of the answer.
+use Rattle.dispatch.proofs.Signed.{back}
 use borrow.Author.Needs.{needs}
 use Rattle.bios.proofs.config_exports.bios_find_pci_device.Statement.{statement}
 use Rattle.bios.proofs.config_exports.bios_find_pci_device.Tie as tie
 
-find-pci-device-requires : tie.Need-find-pci-device-requires
-find-pci-device-requires c κs = search needs
-
-of-search-requires : tie.Need-of-search-requires
-of-search-requires c κs = found-small (now (c .before .args .header)) _ _ _ (c .find-pci-device .ensures)
+device-answer-requires : tie.Need-device-answer-requires
+device-answer-requires c κs = search needs
 
 returns : tie.Need-returns
 returns c =
-    let a = c .before .of-search in
-    rw (back (a .result .number) (record { sfits = c .struct-told .given .0 .1 }), a .ensures) (c .before .before .find-pci-device .ensures .number)
+    let a = c .before .device-answer in
+    rw (back (a .result .number) (record { sfits = c .struct-told .given .0 .1 }), a .ensures)
 
 pub bios-find-pci-device-spec : {M : Type 1} → statement M
-bios-find-pci-device-spec =
-    tie.close (tie.spec find-pci-device-requires of-search-requires returns)
+bios-find-pci-device-spec = tie.close (tie.spec device-answer-requires returns)

@@ -1,6 +1,6 @@
 -- `bios_write_config`: the write of a known width, or the refusal.
 use mathlib.Core.Path.{sym, _∙_}
-use Rattle.bios.proofs.Signed.{back}
+use Rattle.dispatch.proofs.Signed.{back}
 use borrow.Author.Needs.{needs}
 use Rattle.bios.proofs.config_exports.bios_write_config.Statement.{statement}
 use Rattle.bios.proofs.config_exports.bios_write_config.Tie as tie
@@ -17,7 +17,6 @@ write-config-requires c κs = search needs
 number-requires : tie.Need-number-requires
 number-requires c κs = search needs
 
--- /work/w2/target/rlib/board.rlib/interface/lang/src/status.rt:9:36
 enum-told : tie.Need-enum-told
 enum-told c = search needs
 

@@ -1,6 +1,6 @@
 -- `bios_write_data`: the write of a known width, or the refusal.
 use mathlib.Core.Path.{sym, _∙_}
-use Rattle.bios.proofs.Signed.{back}
+use Rattle.dispatch.proofs.Signed.{back}
 use borrow.Author.Needs.{needs}
 use Rattle.bios.proofs.data_exports.bios_write_data.Statement.{statement}
 use Rattle.bios.proofs.data_exports.bios_write_data.Tie as tie
@@ -20,7 +20,6 @@ write-data-requires c κs = search needs
 number-requires : tie.Need-number-requires
 number-requires c κs = search needs
 
--- /work/w5/target/rlib/board.rlib/interface/lang/src/status.rt:9:36
 enum-told : tie.Need-enum-told
 enum-told c = search needs
 

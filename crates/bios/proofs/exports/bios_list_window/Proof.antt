@@ -1,6 +1,6 @@
 -- `bios_list_window`: the number and the values of the listing.
-use Rattle.bios.proofs.Signed.{back}
-use Rattle.bios.proofs.Arms.{list-shown}
+use Rattle.dispatch.proofs.Signed.{back}
+use Rattle.bios.proofs.Listings.{list-shown}
 use borrow.Author.Needs.{needs}
 use Rattle.bios.proofs.exports.bios_list_window.Statement.{statement}
 use Rattle.bios.proofs.exports.bios_list_window.Tie as tie

@@ -1,0 +1,57 @@
+-- Each call of `perform`: its function's contract gives the step.
+use Prim.Native.Nat.{ℕ}
+use mathlib.Core.Path.{_≡_, sym}
+use mathlib.Core.List.{List}
+use lib.IntN.{pos}
+use Rattle.board.specs.Numbers.{bytes}
+use Rattle.board.specs.Parts.{Parts, withRegisters, withCells}
+use Rattle.board.specs.declared.address.BusAddress.{BusAddress}
+use Rattle.board.specs.declared.number.Width.{Width}
+use Rattle.board.specs.declared.status.Status.{Status}
+use Rattle.window_list.specs.Listing.{numberOf, valuesOf, Lists}
+use Rattle.config.specs.Write.{wrote, writeConfig}
+use Rattle.access.specs.Data.{writeData, wrote as dataWrote}
+use Rattle.access.specs.Find.{spaceNumber}
+use Rattle.access.specs.declared.find.Space.{Space}
+use Rattle.load.specs.Load.{loaded, load, resetTo, reset}
+use Rattle.image.specs.Write.{written, write}
+use Rattle.image.specs.declared.check.Verdict.{Verdict}
+use Rattle.reference.specs.declared.Answer.{Answer}
+use Rattle.reference.specs.declared.Call.{Call}
+use Rattle.reference.specs.declared.Call.the-variants.{Load, Reset, WriteImage, WriteConfig, WriteData}
+use Rattle.reference.specs.Answers.{answer, one, ofStatus}
+use Rattle.reference.specs.State.{next, step}
+
+-- a call that leaves every lent part and its own buffer: its answer is made of what its function gives
+pub arm-told : {A : Type 0} (of : A → Answer) (p : Parts) (own : List ℕ) (c d : Call) (v w : A) (r : Answer) → c ≡ d → r ≡ of v → v ≡ w
+    → step p d own ≡ next (of w) p own → next r p own ≡ step p c own
+arm-told of p own c d v w r e a k s = rw (e, a, k) (sym s)
+
+pub arm-load : (p q : Parts) (own : List ℕ) (c : Call) (v : Verdict) (r : Answer) → c ≡ Load
+    → r ≡ answer (pos (v .number)) (one (v .place)) → loaded v q ≡ load p own → next r q own ≡ step p c own
+unfolding step
+arm-load p q own c v r e a l = rw (e, a, ← l)
+
+pub arm-reset : (p q : Parts) (own : List ℕ) (c : Call) (s : Status) (r : Answer) → c ≡ Reset → r ≡ ofStatus s → resetTo s q ≡ reset p
+    → next r q own ≡ step p c own
+unfolding step
+arm-reset p q own c s r e a l = rw (e, a, ← l)
+
+pub arm-write : (p : Parts) (own out : List ℕ) (c : Call) (n : ℕ) (r : Answer) → c ≡ WriteImage → r ≡ answer (pos n) (one 0)
+    → written n out ≡ write (p .header) (p .records) own → next r p out ≡ step p c own
+unfolding step
+arm-write p own out c n r e a w = rw (e, a, ← w)
+
+pub arm-write-config : (p : Parts) (own registers windows : List ℕ) (c : Call) (w : Width) (h register value : ℕ) (s : Status) (r : Answer)
+    → c ≡ WriteConfig w h register value → r ≡ ofStatus s
+    → wrote s registers windows ≡ writeConfig (bytes w) (p .header) (p .records) (p .registers) (p .windows) h register value
+    → next r (withRegisters registers windows p) own ≡ step p c own
+unfolding step
+arm-write-config p own registers windows c w h register value s r e a k = rw (e, a, ← k)
+
+pub arm-write-data : (p : Parts) (own cells : List ℕ) (c : Call) (space : Space) (w : Width) (h : ℕ) (address : BusAddress) (value : ℕ) (s : Status) (r : Answer)
+    → c ≡ WriteData space w h address value → r ≡ ofStatus s
+    → dataWrote s cells ≡ writeData (bytes w) (p .header) (p .records) (p .windows) (p .cellOffsets) (p .cells) (spaceNumber space) h (address .0) value
+    → next r (withCells cells p) own ≡ step p c own
+unfolding step
+arm-write-data p own cells c space w h address value s r e a k = rw (e, a, ← k)

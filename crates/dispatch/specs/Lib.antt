@@ -1,0 +1,2 @@
+-- What private steps need.
+pub mod Steps

@@ -1,0 +1,178 @@
+// Every call on a board through one function.
+use crate::answer::of_fast_read;
+use crate::answer::of_listing;
+use crate::answer::of_number;
+use crate::answer::of_read;
+use crate::answer::of_status;
+use crate::answer::of_to_bus;
+use crate::answer::of_to_cpu;
+use crate::searches::class_answer;
+use crate::searches::device_answer;
+use access::convert::bus_to_cpu;
+use access::convert::cpu_to_bus;
+use access::data::fast_read_data;
+use access::data::read_data;
+use access::data::write_data;
+use board::layout::CellOffsets;
+use board::layout::Header;
+use board::layout::Hooks;
+use board::layout::Records;
+use board::layout::Registers;
+use board::layout::Used;
+use board::layout::Windows;
+use config::read::fast_read_config;
+use config::read::read_config;
+use config::write::write_config;
+use image::write::write_image;
+use load::calls::load;
+use load::calls::reset;
+use reference::Answer;
+use reference::Call;
+use window_list::listing::list_window;
+ghost use mathlib.Core.Path.{_≡_};
+ghost use Rattle.board.specs.Parts.{parts};
+ghost use Rattle.reference.specs.State.{next, step};
+
+// Performs a call: its own bytes, an image or an output, are lent beside the board's parts and the cells.
+pub fn perform(
+    call: Call,
+    header: &mut Header,
+    records: &mut Records,
+    registers: &mut Registers,
+    windows: &mut Windows,
+    offsets: &mut CellOffsets,
+    hooks: &mut Hooks,
+    used: &mut Used,
+    cells: &mut [u8],
+    own: &mut [u8],
+) -> Answer
+    ensures { λ r. ⌜ next r (parts (now (header .exit)) (now (records .exit)) (now (registers .exit)) (now (windows .exit)) (now (offsets .exit)) (now (hooks .exit)) (now (used .exit)) (now (cells .exit))) (now (own .exit)) ≡ step (parts (now (header .entry)) (now (records .entry)) (now (registers .entry)) (now (windows .entry)) (now (offsets .entry)) (now (hooks .entry)) (now (used .entry)) (now (cells .entry))) call (now (own .entry)) ⌝ }
+{
+    match call {
+        Call::Load => {
+            let v = load(
+                own,
+                header,
+                records,
+                registers,
+                windows,
+                offsets,
+                hooks,
+                used,
+                cells,
+            );
+            of_number(v.number, v.place)
+        }
+        Call::Reset => {
+            of_status(reset(
+                header,
+                records,
+                registers,
+                windows,
+                offsets,
+                hooks,
+                used,
+                cells,
+            ))
+        }
+        Call::WriteImage => of_number(write_image(header, records, own), 0),
+        Call::FindPciDevice { id, index } => { device_answer(header, registers, id, index) }
+        Call::FindPciClasscode { class, index } => { class_answer(header, registers, class, index) }
+        Call::ReadConfig {
+            width,
+            handle,
+            register,
+        } => { of_read(read_config(header, registers, width, handle, register)) }
+        Call::FastReadConfig {
+            width,
+            handle,
+            register,
+        } => { of_fast_read(fast_read_config(header, registers, width, handle, register)) }
+        Call::WriteConfig {
+            width,
+            handle,
+            register,
+            value,
+        } => {
+            of_status(write_config(
+                header,
+                records,
+                registers,
+                windows,
+                width,
+                handle,
+                register,
+                value,
+            ))
+        }
+        Call::ReadData {
+            space,
+            width,
+            handle,
+            address,
+        } => {
+            of_read(read_data(
+                header,
+                records,
+                windows,
+                offsets,
+                cells,
+                space,
+                width,
+                handle,
+                address,
+            ))
+        }
+        Call::FastReadData {
+            space,
+            width,
+            handle,
+            address,
+        } => {
+            of_fast_read(fast_read_data(
+                header,
+                records,
+                windows,
+                offsets,
+                cells,
+                space,
+                width,
+                handle,
+                address,
+            ))
+        }
+        Call::WriteData {
+            space,
+            width,
+            handle,
+            address,
+            value,
+        } => {
+            of_status(write_data(
+                header,
+                records,
+                windows,
+                offsets,
+                cells,
+                space,
+                width,
+                handle,
+                address,
+                value,
+            ))
+        }
+        Call::BusToCpu { handle, address } => of_to_cpu(bus_to_cpu(
+            header,
+            records,
+            handle,
+            address,
+        )),
+        Call::CpuToBus { handle, address } => of_to_bus(cpu_to_bus(
+            header,
+            records,
+            handle,
+            address,
+        )),
+        Call::ListWindow { n } => of_listing(list_window(windows, n)),
+    }
+}

@@ -1,0 +1,36 @@
+-- What images mean: statements alone, proved in proofs/Trip.antt.
+use Prim.Native.Nat.{ℕ, _<_}
+use mathlib.Core.List.{List}
+use mathlib.Core.Path.{_≡_}
+use lib.ListN.{length}
+use Rattle.board.specs.Numbers.{byteAt}
+use Rattle.board.specs.Parts.{Parts}
+use Rattle.image.specs.Image.{imageSize, countOf}
+use Rattle.image.specs.Refusals.{accepted}
+use Rattle.image.specs.Write.{Written, write}
+use Rattle.load.specs.Load.{load}
+
+-- what the writer leaves of a board that was loaded from an image
+abbrev pub rewritten : Parts → List ℕ → List ℕ → Written
+rewritten p image out = write (load p image .parts .header) (load p image .parts .records) out
+
+-- a loaded board is written, and that image loads as the first one does: on every board the same verdict and the same parts
+pub record SameBoard (p : Parts) (image out : List ℕ) : Type 0 where
+  pub number : rewritten p image out .number ≡ 0
+  pub loads : (q : Parts) → load q (rewritten p image out .out) ≡ load q image
+
+abbrev pub RoundTrip : Type 0
+RoundTrip =
+    (p : Parts) (image out : List ℕ) → load p image .verdict ≡ accepted → length out ≡ imageSize (countOf image)
+    → SameBoard p image out
+
+-- an image with no notes is written back byte for byte
+abbrev pub WrittenBack : Type 0
+WrittenBack =
+    (p : Parts) (image out : List ℕ) → load p image .verdict ≡ accepted → length image ≡ imageSize (countOf image)
+    → ((i : ℕ) → byteAt image i < 256) → length out ≡ length image → rewritten p image out .out ≡ image
+
+-- after a load every lent part is a function of the image alone, but for the cells past its windows
+abbrev pub ImageAlone : Type 0
+ImageAlone =
+    (p q : Parts) (image : List ℕ) → p .cells ≡ q .cells → load p image .verdict ≡ accepted → load q image ≡ load p image

@@ -1,0 +1,44 @@
+// Header, records and offsets of an accepted image.
+use board::layout::CellOffsets;
+use board::layout::FUNCTIONS;
+use board::layout::Header;
+use board::layout::RECORD;
+use board::layout::Records;
+use board::number::Width;
+use board::number::big_at;
+use bytes::copy;
+use image::cells::place_cells;
+use image::check::TRAILER;
+ghost use mathlib.Core.Path.{_≡_};
+ghost use Prim.Native.Nat.{_≤_};
+ghost use lib.ListN.{length};
+ghost use Rattle.board.specs.Layout.{functionsMax};
+ghost use Rattle.image.specs.Image.{imageSize, countOf, recordsOf};
+ghost use Rattle.load.specs.Load.{padded};
+ghost use Rattle.load.specs.Steps.{Installed};
+
+// The records of an accepted image, zeros after the last.
+fn copy_records(image: &[u8], count: usize, records: &mut Records)
+    requires { ⌜ (count ≡ countOf (now image)) × ((count ≤ functionsMax) × (imageSize count ≤ length (now image))) ⌝ }
+    ensures { λ _. ⌜ now (records .exit) ≡ padded (recordsOf (now (image .entry))) ⌝ }
+{
+    *records = [0u8; FUNCTIONS * RECORD];
+    let from = image.len() - (RECORD * count + TRAILER);
+    let to = from + RECORD * count;
+    copy(&image[from..to], records);
+}
+
+pub(crate) fn install(
+    image: &[u8],
+    header: &mut Header,
+    records: &mut Records,
+    offsets: &mut CellOffsets,
+)
+    requires { ⌜ (countOf (now image) ≤ functionsMax) × (imageSize (countOf (now image)) ≤ length (now image)) ⌝ }
+    ensures { λ _. ⌜ Installed (now (image .entry)) (now (header .exit)) (now (records .exit)) (now (offsets .exit)) ⌝ }
+{
+    let count = big_at(image, image.len() - 8, Width::Word);
+    *header = [count, 0, 0, 0];
+    copy_records(image, count as usize, records);
+    place_cells(records, offsets);
+}

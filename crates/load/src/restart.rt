@@ -1,0 +1,68 @@
+// What load and reset have in common: all that follows from the loaded records.
+use board::layout::CellOffsets;
+use board::layout::FUNCTIONS;
+use board::layout::HOOK;
+use board::layout::Header;
+use board::layout::Hooks;
+use board::layout::MARK;
+use board::layout::RECORD;
+use board::layout::REGISTER_BYTES;
+use board::layout::Records;
+use board::layout::Registers;
+use board::layout::Used;
+use board::layout::WINDOWS;
+use board::layout::Windows;
+use board::number::byte_at;
+use board::number::u32_at;
+use window_list::refresh::refresh;
+ghost use mathlib.Core.Path.{_≡_};
+ghost use Prim.Native.Nat.{_*_, _≤_};
+ghost use lib.ListN.{length, getD};
+ghost use Rattle.board.specs.Layout.{functionsMax, registersEach, windowsMax};
+ghost use Rattle.board.specs.Parts.{parts};
+ghost use Rattle.image.specs.Cells.{zeroed};
+ghost use Rattle.load.specs.Load.{registersOf, restarted};
+
+// The reset values of all functions into the registers.
+fn copy_registers(records: &[u8], registers: &mut [u8])
+    requires { ⌜ length (now registers) ≡ functionsMax * registersEach ⌝ }
+    ensures { λ _. ⌜ now (registers .exit) ≡ registersOf (now (records .entry)) ⌝ }
+{
+    let mut j = 0;
+    while j < registers.len() {
+        registers[j] = byte_at(records, RECORD * (j / REGISTER_BYTES) + j % REGISTER_BYTES);
+        j += 1;
+    }
+}
+
+// The first n cells set to zero.
+fn clear(cells: &mut [u8], n: usize)
+    requires { ⌜ n ≤ length (now cells) ⌝ }
+    ensures { λ _. ⌜ now (cells .exit) ≡ zeroed n (now (cells .entry)) ⌝ }
+{
+    let mut i = 0;
+    while i < n {
+        cells[i] = 0;
+        i += 1;
+    }
+}
+
+pub(crate) fn restart(
+    header: &Header,
+    records: &Records,
+    registers: &mut Registers,
+    windows: &mut Windows,
+    offsets: &CellOffsets,
+    hooks: &mut Hooks,
+    used: &mut Used,
+    cells: &mut [u8],
+)
+    requires { ⌜ getD (now offsets) windowsMax 0 ≤ length (now cells) ⌝ }
+    ensures { λ _. ⌜ parts (now (header .entry)) (now (records .entry)) (now (registers .exit)) (now (windows .exit)) (now (offsets .entry)) (now (hooks .exit)) (now (used .exit)) (now (cells .exit)) ≡ restarted (now (header .entry)) (now (records .entry)) (now (offsets .entry)) (now (cells .entry)) ⌝ }
+{
+    copy_registers(records, registers);
+    refresh(header, records, registers, windows);
+    *hooks = [0u32; HOOK * FUNCTIONS];
+    *used = [0u32; MARK * FUNCTIONS];
+    clear(cells, u32_at(offsets, WINDOWS) as usize);
+}
