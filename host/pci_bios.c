@@ -30,6 +30,19 @@ int32_t bios_bus_to_cpu(const uint32_t *header, const uint8_t *records, uint32_t
                         uint32_t *cpu);
 int32_t bios_cpu_to_bus(const uint32_t *header, const uint8_t *records, uint32_t handle, uint32_t address,
                         uint32_t *bus);
+int32_t bios_get_resource(const uint32_t *header, const uint8_t *records, const uint8_t *registers,
+                          const uint64_t *windows, uint32_t handle, uint8_t *out, size_t length);
+uint32_t bios_descriptor_step(const uint8_t *bytes, size_t length, size_t at, uint32_t *fields, size_t *following);
+int32_t bios_hook_interrupt(const uint32_t *header, const uint8_t *records, uint32_t *hooks, uint32_t handle,
+                            uint32_t handler, uint32_t parameter);
+int32_t bios_unhook_interrupt(const uint32_t *header, uint32_t *hooks, uint32_t handle);
+int32_t bios_list_chain(const uint8_t *records, const uint32_t *hooks, uint32_t line, uint32_t place, uint64_t *values);
+int32_t bios_get_card_used(const uint32_t *header, const uint32_t *used, uint32_t handle, uint32_t *mark,
+                           uint32_t *call_back);
+int32_t bios_set_card_used(const uint32_t *header, uint32_t *used, uint32_t handle, uint32_t mark, uint32_t call_back);
+int32_t bios_special_cycle(uint8_t bus, uint32_t message);
+int32_t bios_get_routing(uint32_t handle);
+int32_t bios_set_interrupt(uint32_t handle, uint32_t mode);
 
 int32_t pci_check_image(const uint8_t *image, size_t length, uint32_t *place) {
     return (int32_t)bios_check_image(image, length, SIZE_MAX, place);
@@ -113,4 +126,59 @@ int32_t pci_bus_to_cpu(const struct pci_board *board, uint32_t handle, uint32_t 
 
 int32_t pci_cpu_to_bus(const struct pci_board *board, uint32_t handle, uint32_t address, uint32_t *bus) {
     return bios_cpu_to_bus(board->header, board->records, handle, address, bus);
+}
+
+int32_t pci_get_resource(const struct pci_board *board, uint32_t handle, uint8_t *out, size_t length) {
+    return bios_get_resource(board->header, board->records, board->registers, board->windows, handle, out, length);
+}
+
+int32_t pci_descriptor_step(const uint8_t *bytes, size_t length, size_t at, struct pci_descriptor *descriptor,
+                            size_t *following) {
+    uint32_t fields[6];
+    uint32_t found = bios_descriptor_step(bytes, length, at, fields, following);
+    descriptor->next = (uint16_t)fields[0];
+    descriptor->flags = (uint16_t)fields[1];
+    descriptor->start = fields[2];
+    descriptor->length = fields[3];
+    descriptor->offset = fields[4];
+    descriptor->dmaoffset = fields[5];
+    return (int32_t)found;
+}
+
+int32_t pci_hook_interrupt(struct pci_board *board, uint32_t handle, uint32_t handler, uint32_t parameter) {
+    return bios_hook_interrupt(board->header, board->records, board->hooks, handle, handler, parameter);
+}
+
+int32_t pci_unhook_interrupt(struct pci_board *board, uint32_t handle) {
+    return bios_unhook_interrupt(board->header, board->hooks, handle);
+}
+
+int32_t pci_list_chain(const struct pci_board *board, uint32_t line, uint32_t place, uint32_t *handle,
+                       uint32_t *handler, uint32_t *parameter) {
+    uint64_t values[6];
+    int32_t number = bios_list_chain(board->records, board->hooks, line, place, values);
+    *handle = (uint32_t)values[0];
+    *handler = (uint32_t)values[1];
+    *parameter = (uint32_t)values[2];
+    return number;
+}
+
+int32_t pci_get_card_used(const struct pci_board *board, uint32_t handle, uint32_t *status, uint32_t *callback) {
+    return bios_get_card_used(board->header, board->used, handle, status, callback);
+}
+
+int32_t pci_set_card_used(struct pci_board *board, uint32_t handle, uint32_t status, uint32_t callback) {
+    return bios_set_card_used(board->header, board->used, handle, status, callback);
+}
+
+int32_t pci_special_cycle(uint8_t bus, uint32_t data) {
+    return bios_special_cycle(bus, data);
+}
+
+int32_t pci_get_routing(void) {
+    return bios_get_routing(0);
+}
+
+int32_t pci_set_interrupt(void) {
+    return bios_set_interrupt(0, 0);
 }

@@ -23,6 +23,12 @@ struct pci_window {
     int contested;
 };
 
+/* A descriptor: the fields in the order of its 20 bytes. */
+struct pci_descriptor {
+    uint16_t next, flags;
+    uint32_t start, length, offset, dmaoffset;
+};
+
 /* Buffers that are lent to one call overlap neither each other nor the board. */
 
 /* The number of the first refusal of an image, 0 for none, 8 left out; with 6 the place of the record at fault, else 0. */
@@ -85,5 +91,37 @@ int32_t pci_write_data(struct pci_board *board, uint8_t *cells, size_t cells_len
 /* Conversions of any address by the offset of a handle's function, modulo 2^32: 0, or -9 and the address 0. */
 int32_t pci_bus_to_cpu(const struct pci_board *board, uint32_t handle, uint32_t address, uint32_t *cpu);
 int32_t pci_cpu_to_bus(const struct pci_board *board, uint32_t handle, uint32_t address, uint32_t *bus);
+
+/* Writes the descriptors of a function's windows, 20 bytes each, in base register order: 0, or -9 a bad handle, -8 no
+   windows, -7 an output that is too short, which change nothing. Bytes past the last descriptor stay. */
+int32_t pci_get_resource(const struct pci_board *board, uint32_t handle, uint8_t *out, size_t length);
+
+/* The descriptor at a position, and the position after it: 1, or 0 with zeros and the position as it was where 20 bytes
+   do not remain. After a descriptor with the last mark or with next below 20 the position is the end. */
+int32_t pci_descriptor_step(const uint8_t *bytes, size_t length, size_t at, struct pci_descriptor *descriptor,
+                            size_t *following);
+
+/* Puts a handler and its parameter last on the chain of the function's loaded line: 0, or -9 a bad handle, -8 pin 0 or
+   line above 15, -6 already hooked. */
+int32_t pci_hook_interrupt(struct pci_board *board, uint32_t handle, uint32_t handler, uint32_t parameter);
+
+/* Takes the function's hook from its chain, the others keep their order: 0, or -9 a bad handle, -8 not hooked. */
+int32_t pci_unhook_interrupt(struct pci_board *board, uint32_t handle);
+
+/* The hook at a place of a line's chain, from 0: 0, or -8 line above 15, -4 past the end, with zeros. */
+int32_t pci_list_chain(const struct pci_board *board, uint32_t line, uint32_t place, uint32_t *handle,
+                       uint32_t *handler, uint32_t *parameter);
+
+/* The used status of a function and its call-back address: 0, or -9 and zeros. The status is 0 free, 1 in use, 2 in use
+   with a call-back, 3 may be taken over. */
+int32_t pci_get_card_used(const struct pci_board *board, uint32_t handle, uint32_t *status, uint32_t *callback);
+
+/* Sets them, the call-back address being kept for 2 and 0 otherwise: 0, or -9 a bad handle, -8 a status above 3. */
+int32_t pci_set_card_used(struct pci_board *board, uint32_t handle, uint32_t status, uint32_t callback);
+
+/* Not supported: always -2. */
+int32_t pci_special_cycle(uint8_t bus, uint32_t data);
+int32_t pci_get_routing(void);
+int32_t pci_set_interrupt(void);
 
 #endif

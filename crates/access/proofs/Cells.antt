@@ -1,16 +1,16 @@
 -- What a write leaves in the cells: the same read gives the value back, and no other cell changes.
-use Prim.Native.Nat.{ℕ, suc, _+_, _%_, _^_, _<_, _≤_}
+use Prim.Native.Nat.{ℕ, _+_, _%_, _^_, _≤_}
 use native.Mathlib.Nat.{mod-eq-of-lt}
 use native.Mathlib.Omega.{arith}
 use mathlib.Core.Bool.{Bool, true, false, cond}
-use mathlib.Core.List.{List, [], _∷_, append-assoc}
-use mathlib.Core.Logic.{_⊎_, inl, inr, ⊎-elim}
+use mathlib.Core.List.{List, append-assoc}
 use mathlib.Core.Path.{_≡_, refl, _∙_, ap}
 use lib.Dec.{eqb}
-use lib.ListN.{length, getD, set, take, drop}
-use lib.Seq.{sets, length-sets, sets-eq, length-take-le, getD-set-other}
+use lib.ListN.{length, take, drop}
+use lib.Seq.{sets, length-sets, sets-eq, length-take-le}
 use Rattle.board.specs.Numbers.{byteAt, big, bigBytes, reversed}
 use Rattle.board.proofs.Numbers.{reversed-below, reversed-back, big-bytes}
+use Rattle.board.proofs.Stores.{sets-other}
 use Rattle.board.proofs.Tables.{table-length}
 use Rattle.access.specs.Orders.{ordered}
 use Rattle.access.specs.Meaning.{ReadBack, OnlyItsCells}
@@ -35,13 +35,6 @@ ordered-back order w value = by (eqb order 2)
 -- THEOREM: a read after a write of the same width at the same place gives the value written
 pub read-back : ReadBack
 read-back order w at value cells h = ap (ordered order w) (stored-value w at (ordered order w value) cells h) ∙ ordered-back order w value
-
--- a run of stores changes no place outside it
-sets-other : (l : List ℕ) (i : ℕ) (vs : List ℕ) (j : ℕ) → (j < i) ⊎ (i + length vs ≤ j) → getD (sets l i vs) j 0 ≡ getD l j 0
-sets-other l i [] j h = refl
-sets-other l i (v ∷ vs) j h =
-    sets-other (set l i v) (suc i) vs j (⊎-elim (λ a. inl (omega arith)) (λ b. inr (omega arith)) h)
-    ∙ getD-set-other l i j v 0 (⊎-elim (λ a e. omega arith) (λ b e. omega arith) h)
 
 -- THEOREM: a write changes only the cells of its width
 pub only-its-cells : OnlyItsCells

@@ -10,18 +10,13 @@ use board::layout::Records;
 use board::layout::Windows;
 use board::number::Width;
 use board::number::big_at;
-use board::number::bytes;
-use board::number::put_byte;
-use board::number::reversed;
+use board::number::put_big;
 use board::read::FastRead;
 use board::read::Read;
 use board::read::refused_fast;
 use board::status::Status;
 ghost use mathlib.Core.Path.{_≡_};
-ghost use lib.ListN.{length};
-ghost use lib.Seq.{sets};
-ghost use Prim.Native.Nat.{_+_, _≤_};
-ghost use Rattle.board.specs.Numbers.{bytes, bigBytes};
+ghost use Rattle.board.specs.Numbers.{bytes};
 ghost use Rattle.access.specs.Find.{spaceNumber};
 ghost use Rattle.access.specs.Cells.{valueAt, cellsAfter};
 ghost use Rattle.access.specs.Data.{readData, fastReadData, wrote, writeData};
@@ -31,21 +26,6 @@ fn value_at(cells: &[u8], at: usize, order: u8, width: Width) -> u32
     ensures { λ r. ⌜ r ≡ valueAt order (bytes width) at (now (cells .entry)) ⌝ }
 {
     ordered(order, width, big_at(cells, at, width))
-}
-
-// Stores the bytes of a number, highest first.
-fn store(cells: &mut [u8], at: usize, width: Width, value: u32)
-    requires { ⌜ at + bytes width ≤ length (now cells) ⌝ }
-    ensures { λ _. ⌜ now (cells .exit) ≡ sets (now (cells .entry)) at (bigBytes (bytes width) value) ⌝ }
-{
-    let w = bytes(width);
-    let mut rest = reversed(value, width);
-    let mut i = 0;
-    while i < w {
-        put_byte(cells, at + i as usize, (rest % 256) as u8);
-        rest = rest / 256;
-        i += 1;
-    }
 }
 
 // Reads a number of a width in a window.
@@ -145,7 +125,7 @@ pub fn write_data(
         address,
     ) {
         Place::At { at, order } => {
-            store(cells, at, width, ordered(order, width, value));
+            put_big(cells, at, width, ordered(order, width, value));
             Status::SUCCESSFUL
         }
         Place::Refused(status) => status,

@@ -1,2 +1,2 @@
--- The law that a proof here cites.
+-- The laws that proofs here cite.
 pub mod Listings

@@ -1,14 +1,21 @@
--- The listing for C.
+-- The listings for C.
 use Prim.Native.Nat.{ℕ}
 use mathlib.Core.Path.{_≡_}
 use mathlib.Core.List.{List}
 use Rattle.window_list.specs.Windows.{Window}
 use Rattle.window_list.specs.Listing.{numberOf, valuesOf, Lists}
 use Rattle.window_list.specs.declared.listing.Listing.{Listing}
+use Rattle.interrupt.specs.Hooks.{Hook}
+use Rattle.interrupt.specs.Listing.{chainNumberOf, chainValuesOf, ListsChain}
+use Rattle.interrupt.specs.declared.listing.ChainListing.{ChainListing}
 use Rattle.reference.specs.declared.Answer.{Answer}
-use Rattle.reference.specs.Answers.{answer}
-use Rattle.bios.specs.Exports.{shown, shownWindow}
+use Rattle.reference.specs.Answers.{answer, ofChain}
+use Rattle.bios.specs.Exports.{shown, shownWindow, shownHook}
 
 pub list-shown : (l : List Window) (n : ℕ) (r : Listing) (a : Answer) → Lists l n r → a ≡ answer (numberOf r) (valuesOf r)
     → shown (a .number) (a .values) ≡ shownWindow l n
 list-shown l n r a k e = rw (e, k .number, k .values)
+
+pub chain-shown : (chain : List Hook) (line place : ℕ) (r : ChainListing) (a : Answer) → ListsChain chain line place r
+    → a ≡ ofChain (chainNumberOf r) (chainValuesOf r) → shown (a .number) (a .values) ≡ shownHook chain line place
+chain-shown chain line place r a k e = rw (e, k .number, k .values)

@@ -1,9 +1,10 @@
 -- What the calls for C hand back, as one value each.
 use Prim.Native.Nat.{ℕ}
 use mathlib.Core.Bool.{cond, true}
-use mathlib.Core.List.{List}
+use mathlib.Core.List.{List, [], _∷_, _++_}
 use lib.Dec.{eqb}
 use lib.IntN.{ℤ}
+use lib.ListN.{replicate}
 use Rattle.board.specs.Numbers.{bytes}
 use Rattle.board.specs.Statuses.{generalError}
 use Rattle.board.specs.declared.number.Width.the-variants.{Byte, Word, Long}
@@ -21,6 +22,12 @@ use Rattle.access.specs.declared.convert.ToBus.{ToBus}
 use Rattle.access.specs.declared.convert.ToCpu.{ToCpu}
 use Rattle.access.specs.declared.find.Space.{Space}
 use Rattle.access.specs.declared.find.Space.the-variants.{Memory, Io}
+use Rattle.interrupt.specs.Hooks.{Hook}
+use Rattle.interrupt.specs.Listing.{chainNumber, chainValues}
+use Rattle.interrupt.specs.declared.used.CardUsed.{CardUsed}
+use Rattle.resource.specs.declared.descriptor.Descriptor.{Descriptor}
+use Rattle.resource.specs.declared.step.Step.{Step}
+use Rattle.resource.specs.declared.step.Step.the-variants.{Found as StepFound, Ended as StepEnded}
 use Rattle.image.specs.declared.check.Verdict.{Verdict}
 use Rattle.bios.specs.declared.width.AskedWidth.{AskedWidth}
 use Rattle.bios.specs.declared.width.AskedWidth.the-variants.{Known, Other}
@@ -42,6 +49,29 @@ shown number values = record { number = number; values = values }
 -- window n of a list: space (1 for I/O), start, length, handle, base register, contested; zeros past the end
 abbrev pub shownWindow : List Window → ℕ → Shown
 shownWindow l n = shown (listedNumber l n) (listedValues l n)
+
+-- a place of a line's chain: handle, handler, parameter, then zeros; zeros where it is refused
+abbrev pub shownHook : List Hook → ℕ → ℕ → Shown
+shownHook chain line place = shown (chainNumber chain line place) (chainValues chain line place ++ replicate 3 0)
+
+abbrev pub cardUsed : ℤ → ℕ → ℕ → CardUsed
+cardUsed number used callBack = record { status = status number; used = used; «call_back» = callBack }
+
+-- a step through descriptors: 1, the six fields and the position after them, or 0, zeros and the position as it was
+pub record StepNumbers : Type 0 where
+  pub found : ℕ
+  pub fields : List ℕ
+  pub following : ℕ
+
+abbrev pub stepNumbers : ℕ → List ℕ → ℕ → StepNumbers
+stepNumbers found fields following = record { found = found; fields = fields; following = following }
+
+abbrev pub fieldsShown : Descriptor → List ℕ
+fieldsShown d = d .next ∷ d .flags ∷ d .start ∷ d .length ∷ d .offset ∷ d .dmaoffset ∷ []
+
+abbrev pub stepShown : ℕ → Step → StepNumbers
+stepShown at (StepFound d next) = stepNumbers 1 (fieldsShown d) next
+stepShown at StepEnded = stepNumbers 0 (replicate 6 0) at
 
 -- a width for C: 1, 2 or 4; another is refused with -8, and a fast read of it gives all ones
 abbrev pub widthOf : ℕ → AskedWidth

@@ -2,4 +2,6 @@
 pub mod config_exports;
 pub mod data_exports;
 pub mod exports;
+pub mod interrupt_exports;
+pub mod resource_exports;
 mod width;

@@ -2,5 +2,6 @@
 pub mod Addresses
 pub mod Handles
 pub mod Numbers
+pub mod Stores
 pub mod Tables
 pub mod Tests

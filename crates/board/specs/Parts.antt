@@ -34,3 +34,13 @@ withRegisters registers windows p =
 abbrev pub withCells : List ℕ → Parts → Parts
 withCells cells p =
     parts (p .header) (p .records) (p .registers) (p .windows) (p .cellOffsets) (p .hooks) (p .used) cells
+
+-- with other hooks
+abbrev pub withHooks : List ℕ → Parts → Parts
+withHooks hooks p =
+    parts (p .header) (p .records) (p .registers) (p .windows) (p .cellOffsets) hooks (p .used) (p .cells)
+
+-- with other used marks
+abbrev pub withUsed : List ℕ → Parts → Parts
+withUsed used p =
+    parts (p .header) (p .records) (p .registers) (p .windows) (p .cellOffsets) (p .hooks) used (p .cells)

@@ -3,7 +3,8 @@ ghost use mathlib.Core.Path.{_≡_};
 ghost use Prim.Native.Nat.{_+_, _*_, _%_, _<_};
 ghost use lib.Dec.{eqb};
 ghost use lib.ListN.{getD, set};
-ghost use Rattle.board.specs.Numbers.{byteAt, bytes, little, big, reversed, power};
+ghost use lib.Seq.{sets};
+ghost use Rattle.board.specs.Numbers.{byteAt, bytes, little, big, bigBytes, reversed, power};
 
 // How many bytes an access or a number has: 1, 2 or 4.
 pub enum Width {
@@ -111,6 +112,23 @@ pub fn big_at(s: &[u8], at: usize, width: Width) -> u32
     ensures { λ r. ⌜ r ≡ big (bytes width) (byteAt (now (s .entry))) at ⌝ }
 {
     reversed(little_at(s, at, width), width)
+}
+
+// Stores the bytes of a number at a place, highest first; past the end nothing is stored.
+pub fn put_big(s: &mut [u8], at: usize, width: Width, value: u32)
+    ensures { λ _. ⌜ now (s .exit) ≡ sets (now (s .entry)) at (bigBytes (bytes width) value) ⌝ }
+{
+    if s.len() <= at {
+        return;
+    }
+    let w = bytes(width);
+    let mut rest = reversed(value, width);
+    let mut i = 0;
+    while i < w {
+        put_byte(s, at + i as usize, (rest % 256) as u8);
+        rest = rest / 256;
+        i += 1;
+    }
 }
 
 // The number at a place of a lent array, 0 past the end.

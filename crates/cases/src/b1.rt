@@ -40,6 +40,7 @@ fn set_function(records: &mut Records, registers: &mut Registers, function: usiz
     put_long(registers, first, 0x00010F0F);
     put_long(registers, first + 0x08, 0x11800000);
     put_long(registers, first + 0x3C, 0x00000105);
+    put_long(records, RECORD * function + 0x3C, 0x00000105);
     put_byte(records, masks + COMMAND as usize, 0x03);
     put_byte(records, masks + 0x3C, 0xFF);
     put_long(records, masks + BASE_0 as usize, 0xFFFFFC00);

@@ -91,7 +91,7 @@ pub(crate) fn show(list: &Windows) {
 }
 
 // A row with the window list of a board.
-pub(crate) fn case(row: &[u8], count: u32, windows: &[u64]) {
+pub(crate) fn case_of(row: &[u8], count: u32, windows: &[u64]) {
     let header = [count, 0, 0, 0];
     let mut records = [0u8; FUNCTIONS * RECORD];
     let mut registers = [0u8; FUNCTIONS * REGISTER_BYTES];
@@ -101,6 +101,11 @@ pub(crate) fn case(row: &[u8], count: u32, windows: &[u64]) {
     begin(row);
     show(&list);
     end(row);
+}
+
+// The same with at most three windows; 0 is none.
+pub(crate) fn case(row: &[u8], count: u32, first: u64, second: u64, third: u64) {
+    case_of(row, count, &[first, second, third]);
 }
 
 // All 96 windows of 64 KB each, the first base register of the first function at the highest start.

@@ -33,11 +33,14 @@ use board::read::Read;
 use board::status::Status;
 use window_list::refresh::refresh;
 
-// The cells of B1: 1024, 1024 and 16. A row with fewer lends one less.
+// The cells of B1: 1024, 1024 and 16.
 pub(crate) const CELLS: usize = 2064;
 
 // The first cell of handle 2.
 const SECOND: usize = 1024;
+
+// What bytes hold before a call that may write them.
+pub(crate) const UNTOUCHED: u8 = 0xA5;
 
 // Where the cells of B1's windows begin, and the total; nothing asks for the others.
 fn offsets() -> CellOffsets {
@@ -48,8 +51,8 @@ fn offsets() -> CellOffsets {
     offsets
 }
 
-// B1 with one window set anew, and its list.
-fn set_board(
+// B1 with one window set anew, and its list; 0 is no window.
+pub(crate) fn set_board(
     records: &mut Records,
     registers: &mut Registers,
     list: &mut Windows,
@@ -215,21 +218,27 @@ fn all(cells: &[u8], from: usize, value: u8) -> bool {
     true
 }
 
+// Whether the bytes from a place on are as they were.
+pub(crate) fn compare(bytes: &[u8], from: usize) {
+    if all(bytes, from, UNTOUCHED) {
+        text(b" unchanged");
+    } else {
+        text(b" changed");
+    }
+}
+
 // A row with what longword 1, written through a handle, does to the cells of handle 2.
 pub(crate) fn touch(row: &[u8], writer: u32, address: u32) {
     let mut records = [0u8; FUNCTIONS * RECORD];
     let mut registers = [0u8; FUNCTIONS * REGISTER_BYTES];
     let mut list = [0u64; WINDOWS];
-    let mut cells = [0xA5u8; CELLS];
+    let mut cells = [UNTOUCHED; CELLS];
     let header = set_board(&mut records, &mut registers, &mut list, 0);
     let status = write_one(&header, &records, &list, &mut cells, writer, address);
     begin(row);
     number(status.number());
-    if all(&cells, SECOND, 0xA5) {
-        text(b"; unchanged");
-    } else {
-        text(b"; changed");
-    }
+    text(b";");
+    compare(&cells, SECOND);
     end(row);
 }
 

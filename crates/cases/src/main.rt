@@ -4,6 +4,8 @@ mod boards;
 mod cells;
 mod configuration;
 mod data;
+mod descriptors;
+mod interrupts;
 mod rows;
 mod vocabulary;
 mod windows;
@@ -31,4 +33,11 @@ fn main() {
     data::counts();
     data::touches();
     data::conversions();
+    descriptors::resources();
+    descriptors::altered_resources();
+    descriptors::walks();
+    interrupts::chains();
+    interrupts::refused_hooks();
+    interrupts::marks();
+    interrupts::always_refused();
 }

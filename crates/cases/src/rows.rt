@@ -1,4 +1,4 @@
-// A row as it is printed: its name, its answer in words and numbers, its sentence. In the code `name | sentence` is one text: each text costs the proof.
+// A row as it is printed: its name, its answer in words and numbers, its sentence. In the code `name | sentence` is one text, since each text in a function makes its proof longer.
 use board::read::FastRead;
 use board::read::Read;
 use board::status::Status;

@@ -4,7 +4,7 @@ use mathlib.Core.Path.{_≡_, sym}
 use mathlib.Core.List.{List}
 use lib.IntN.{pos}
 use Rattle.board.specs.Numbers.{bytes}
-use Rattle.board.specs.Parts.{Parts, withRegisters, withCells}
+use Rattle.board.specs.Parts.{Parts, withRegisters, withCells, withHooks, withUsed}
 use Rattle.board.specs.declared.address.BusAddress.{BusAddress}
 use Rattle.board.specs.declared.number.Width.{Width}
 use Rattle.board.specs.declared.status.Status.{Status}
@@ -13,12 +13,15 @@ use Rattle.config.specs.Write.{wrote, writeConfig}
 use Rattle.access.specs.Data.{writeData, wrote as dataWrote}
 use Rattle.access.specs.Find.{spaceNumber}
 use Rattle.access.specs.declared.find.Space.{Space}
+use Rattle.resource.specs.Resource.{gave, getResource}
+use Rattle.interrupt.specs.Chain.{Changed, changed}
+use Rattle.interrupt.specs.Used.{marked, setCardUsed}
 use Rattle.load.specs.Load.{loaded, load, resetTo, reset}
 use Rattle.image.specs.Write.{written, write}
 use Rattle.image.specs.declared.check.Verdict.{Verdict}
 use Rattle.reference.specs.declared.Answer.{Answer}
 use Rattle.reference.specs.declared.Call.{Call}
-use Rattle.reference.specs.declared.Call.the-variants.{Load, Reset, WriteImage, WriteConfig, WriteData}
+use Rattle.reference.specs.declared.Call.the-variants.{Load, Reset, WriteImage, WriteConfig, WriteData, GetResource, SetCardUsed}
 use Rattle.reference.specs.Answers.{answer, one, ofStatus}
 use Rattle.reference.specs.State.{next, step}
 
@@ -55,3 +58,21 @@ pub arm-write-data : (p : Parts) (own cells : List ℕ) (c : Call) (space : Spac
     → next r (withCells cells p) own ≡ step p c own
 unfolding step
 arm-write-data p own cells c space w h address value s r e a k = rw (e, a, ← k)
+
+-- the descriptors go to the call's own buffer
+pub arm-resource : (p : Parts) (own out : List ℕ) (c : Call) (h : ℕ) (s : Status) (r : Answer) → c ≡ GetResource h → r ≡ ofStatus s
+    → gave s out ≡ getResource (p .header) (p .records) (p .registers) (p .windows) h own → next r p out ≡ step p c own
+unfolding step
+arm-resource p own out c h s r e a k = rw (e, a, ← k)
+
+-- a call that changes the hooks only
+pub arm-hooks : (p : Parts) (own hooks : List ℕ) (c d : Call) (w : Changed) (s : Status) (r : Answer) → c ≡ d → r ≡ ofStatus s
+    → changed s hooks ≡ w → step p d own ≡ next (ofStatus (w .status)) (withHooks (w .hooks) p) own
+    → next r (withHooks hooks p) own ≡ step p c own
+arm-hooks p own hooks c d w s r e a k t = rw (e, a, t, ← k)
+
+pub arm-set-used : (p : Parts) (own used : List ℕ) (c : Call) (h status callBack : ℕ) (s : Status) (r : Answer)
+    → c ≡ SetCardUsed h status callBack → r ≡ ofStatus s → marked s used ≡ setCardUsed (p .header) (p .used) h status callBack
+    → next r (withUsed used p) own ≡ step p c own
+unfolding step
+arm-set-used p own used c h status callBack s r e a k = rw (e, a, ← k)

@@ -5,6 +5,8 @@ use board::read::FastRead;
 use board::read::Read;
 use board::status::Status;
 use config::search::Search;
+use interrupt::listing::ChainListing;
+use interrupt::used::CardUsed;
 use reference::Answer;
 use reference::Values;
 use window_list::listing::ListedWindow;
@@ -13,10 +15,12 @@ ghost use mathlib.Core.Path.{_≡_};
 ghost use mathlib.Core.Bool.{cond};
 ghost use mathlib.Core.List.{[], _∷_};
 ghost use lib.IntN.{pos};
+ghost use lib.ListN.{replicate};
 ghost use Prim.Native.Nat.{_<_};
 ghost use Rattle.window_list.specs.Listing.{numberOf, valuesOf, spaceNumber, startNumber, lengthNumber};
 ghost use Rattle.config.specs.Search.{foundNumber};
-ghost use Rattle.reference.specs.Answers.{answer, one, ofStatus, ofSearch, ofRead, ofFastRead, ofToCpu, ofToBus};
+ghost use Rattle.interrupt.specs.Listing.{chainNumberOf, chainValuesOf};
+ghost use Rattle.reference.specs.Answers.{answer, one, ofStatus, ofSearch, ofRead, ofFastRead, ofToCpu, ofToBus, ofChain, ofUsed};
 ghost use Rattle.dispatch.specs.Steps.{handleFound};
 
 // The answer with the number of a load or of the writer, and one value.
@@ -30,15 +34,22 @@ pub(crate) fn of_number(number: u8, value: u32) -> Answer
     }
 }
 
-// The answer with a status and one value.
-fn of_value(status: Status, value: u32) -> Answer
-    ensures { λ r. ⌜ r ≡ answer (status .0) (one value) ⌝ }
+// The answer with a status and values.
+fn with_values(status: Status, values: Values) -> Answer
+    ensures { λ r. ⌜ r ≡ answer (status .0) values ⌝ }
 {
     Answer {
         number: status.0,
         refused: status.0 != 0,
-        values: [value as u64, 0, 0, 0, 0, 0],
+        values: values,
     }
+}
+
+// With one value.
+fn of_value(status: Status, value: u32) -> Answer
+    ensures { λ r. ⌜ r ≡ answer (status .0) (one value) ⌝ }
+{
+    with_values(status, [value as u64, 0, 0, 0, 0, 0])
 }
 
 // The answer with a status and no values.
@@ -148,4 +159,41 @@ pub fn of_listing(listing: Listing) -> Answer
         }
         Listing::Refused(status) => of_status(status),
     }
+}
+
+// The values of a hook.
+fn hook_values(handle: u32, handler: u32, parameter: u32) -> Values
+    ensures { λ r. ⌜ r ≡ handle ∷ handler ∷ parameter ∷ replicate 3 0 ⌝ }
+{
+    [handle as u64, handler as u64, parameter as u64, 0, 0, 0]
+}
+
+// The answer of a chain listing.
+pub fn of_chain(listing: ChainListing) -> Answer
+    ensures { λ r. ⌜ r ≡ ofChain (chainNumberOf listing) (chainValuesOf listing) ⌝ }
+{
+    match listing {
+        ChainListing::Found {
+            handle,
+            handler,
+            parameter,
+        } => {
+            Answer {
+                number: 0,
+                refused: false,
+                values: hook_values(handle, handler, parameter),
+            }
+        }
+        ChainListing::Refused(status) => of_status(status),
+    }
+}
+
+// The answer with a used mark: its status and call-back address.
+pub(crate) fn of_used(used: CardUsed) -> Answer
+    ensures { λ r. ⌜ r ≡ ofUsed used ⌝ }
+{
+    with_values(
+        used.status,
+        [used.used as u64, used.call_back as u64, 0, 0, 0, 0],
+    )
 }

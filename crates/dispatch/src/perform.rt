@@ -1,4 +1,5 @@
 // Every call on a board through one function.
+use crate::answer::of_chain;
 use crate::answer::of_fast_read;
 use crate::answer::of_listing;
 use crate::answer::of_number;
@@ -6,6 +7,7 @@ use crate::answer::of_read;
 use crate::answer::of_status;
 use crate::answer::of_to_bus;
 use crate::answer::of_to_cpu;
+use crate::answer::of_used;
 use crate::searches::class_answer;
 use crate::searches::device_answer;
 use access::convert::bus_to_cpu;
@@ -24,10 +26,19 @@ use config::read::fast_read_config;
 use config::read::read_config;
 use config::write::write_config;
 use image::write::write_image;
+use interrupt::chain::hook_interrupt;
+use interrupt::chain::unhook_interrupt;
+use interrupt::listing::list_chain;
+use interrupt::unsupported::get_routing;
+use interrupt::unsupported::set_interrupt;
+use interrupt::unsupported::special_cycle;
+use interrupt::used::get_card_used;
+use interrupt::used::set_card_used;
 use load::calls::load;
 use load::calls::reset;
 use reference::Answer;
 use reference::Call;
+use resource::resource::get_resource;
 use window_list::listing::list_window;
 ghost use mathlib.Core.Path.{_≡_};
 ghost use Rattle.board.specs.Parts.{parts};
@@ -173,6 +184,30 @@ pub fn perform(
             handle,
             address,
         )),
+        Call::GetResource { handle } => of_status(get_resource(
+            header,
+            records,
+            registers,
+            windows,
+            handle,
+            own,
+        )),
+        Call::HookInterrupt {
+            handle,
+            handler,
+            parameter,
+        } => of_status(hook_interrupt(header, records, hooks, handle, handler, parameter)),
+        Call::UnhookInterrupt { handle } => of_status(unhook_interrupt(header, hooks, handle)),
+        Call::ListChain { line, place } => of_chain(list_chain(records, hooks, line, place)),
+        Call::GetCardUsed { handle } => of_used(get_card_used(header, used, handle)),
+        Call::SetCardUsed {
+            handle,
+            status,
+            call_back,
+        } => of_status(set_card_used(header, used, handle, status, call_back)),
+        Call::SpecialCycle { bus, message } => of_status(special_cycle(bus, message)),
+        Call::GetRouting { handle } => of_status(get_routing(handle)),
+        Call::SetInterrupt { handle, mode } => of_status(set_interrupt(handle, mode)),
         Call::ListWindow { n } => of_listing(list_window(windows, n)),
     }
 }

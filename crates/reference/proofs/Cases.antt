@@ -7,6 +7,10 @@ use Rattle.window_list.specs.Listing.{listedNumber, listedValues}
 use Rattle.config.specs.Target.{target}
 use Rattle.config.specs.Search.{matching, searchNumber}
 use Rattle.access.specs.Find.{inList, find}
+use Rattle.resource.specs.Descriptor.{descriptorBytes, bytesOf}
+use Rattle.resource.specs.Resource.{windowsFrom, startIn, described, resource}
+use Rattle.interrupt.specs.Listing.{placeNumber, placeValues}
+use Rattle.interrupt.specs.Meaning.{isAmong}
 use Rattle.record.specs.Record.{entryOk, recordOk}
 use Rattle.image.specs.Cells.{cellsBefore}
 use Rattle.image.specs.Image.{sum}
@@ -16,8 +20,9 @@ use Rattle.reference.specs.Run.{referenceAnswers}
 use Rattle.reference.specs.Cases.{stored, b1, ProvedCases, B1Short}
 
 pub proved-cases : ProvedCases
-unfolding stored b1 little big tableFrom windowAt gather openWindows put putAll listOf listedNumber listedValues target matching searchNumber inList find placeIn reversed entryOk recordOk cellsBefore sum firstBad firstRefusal split verdict referenceStep referenceAnswers
-proved-cases = (refl, (refl, (refl, (refl, (refl, (refl, (refl, (refl, (refl, (refl, (refl, (refl, (refl, tt)))))))))))))
+unfolding stored b1 little big tableFrom windowAt gather openWindows put putAll listOf listedNumber listedValues target matching searchNumber inList find placeIn reversed descriptorBytes bytesOf windowsFrom startIn described resource placeNumber placeValues isAmong entryOk recordOk cellsBefore sum firstBad firstRefusal split verdict referenceStep referenceAnswers
+proved-cases =
+    (refl, (refl, (refl, (refl, (refl, (refl, (refl, (refl, (refl, (refl, (refl, (refl, (refl, (refl, (refl, tt)))))))))))))))
 
 pub b1-short : B1Short
 unfolding stored b1 little big entryOk recordOk cellsBefore sum firstBad firstRefusal split verdict referenceStep referenceAnswers

@@ -108,7 +108,7 @@ module _ (b : Reference) (s : Sound b) where
       ifTarget (Writes w register value own) (length (b .records)) w handle register
       (λ i h e k.
       let c = withRegistersOf (registersAfter b w i register value) b in
-      let d : Sound c = record { few = s .few; sized = s .sized; fits = s .fits } in
+      let d : Sound c = record { few = s .few; sized = s .sized; fits = s .fits; chained = s .chained } in
       rw (written-same b (s .sized) w i register value (omega (arith, s .few)) k, list-afresh c d) (as-told c d))
       (rw (list-afresh b s) (as-told b s)) (rw (list-afresh b s) (as-told b s))
 

@@ -1,18 +1,17 @@
 -- The simulation of data calls and conversions.
-use Prim.Native.Nat.{ℕ, _+_, _*_, _-_, _%_, _<_}
+use Prim.Native.Nat.{ℕ, _+_, _*_, _-_, _<_}
 use native.Mathlib.Omega.{arith}
 use mathlib.Core.Bool.{Bool}
 use mathlib.Core.List.{List, [], _∷_}
-use mathlib.Core.Path.{_≡_, refl, ap}
+use mathlib.Core.Path.{_≡_, refl}
 use lib.ListN.{length, getD}
 use lib.Seq.{length-sets}
 use borrow.Author.Tests.{le-ltb}
-use Rattle.board.specs.Layout.{bases, windowsMax, entriesAt, entrySize, offsetAt, offset, byteOrder, widths}
+use Rattle.board.specs.Layout.{bases, windowsMax, entriesAt, entrySize, offsetAt, byteOrder, widths}
 use Rattle.board.specs.Numbers.{bytes}
 use Rattle.board.specs.declared.address.BusAddress.{BusAddress}
 use Rattle.board.specs.declared.address.CpuAddress.{CpuAddress}
 use Rattle.board.specs.declared.number.Width.{Width}
-use Rattle.board.proofs.Numbers.{big-same}
 use Rattle.window_list.specs.Windows.{Window}
 use Rattle.window_list.proofs.KeptArray.{kept-of}
 use Rattle.access.specs.Cells.{placeOf, dataPlace}
@@ -27,10 +26,10 @@ use Rattle.load.specs.Load.{padded}
 use Rattle.image.proofs.Ranges.{offset-at, cell-ranges}
 use Rattle.reference.specs.declared.Call.the-variants.{ReadData, FastReadData, WriteData, BusToCpu, CpuToBus}
 use Rattle.reference.specs.State.{step}
-use Rattle.reference.specs.Reference.{Reference, entryOf, exponentOf, joined, windowsOf, findFor, placeIn, placeFor, offsetOf, referenceStep}
+use Rattle.reference.specs.Reference.{Reference, entryOf, exponentOf, joined, windowsOf, findFor, placeIn, placeFor, referenceStep}
 use Rattle.reference.specs.Run.{partsOf}
 use Rattle.reference.proofs.Tests.{ifBoth, ifAt}
-use Rattle.reference.proofs.Registers.{kept-byte}
+use Rattle.reference.proofs.Registers.{kept-byte, kept-number}
 use Rattle.reference.proofs.Sound.{Sound, Simulated, as-told, count-same}
 use Rattle.reference.proofs.InSlot.{in-window}
 
@@ -103,17 +102,13 @@ module _ (b : Reference) (s : Sound b) where
       rw (place-same width _ handle (address .0))
       (ifAt (placeFor b (bytes width) (spaceNumber space) handle (address .0))
       (λ at order e.
-      rw e (as-told _ (record { few = s .few; sized = s .sized; fits = simp length-sets (s .fits) })))
+      rw e (as-told _ (record { few = s .few; sized = s .sized; fits = simp length-sets (s .fits); chained = s .chained })))
       (λ r e. rw e (as-told b s)))
-
-  offset-same : (i : ℕ) → offset (partsOf b .records) i ≡ offsetOf (b .records) i
-  unfolding partsOf
-  offset-same i = big-same 4 _ _ offsetAt offsetAt (λ d h. ap (λ n. n % 256) (kept-byte (b .records) (s .sized) i (offsetAt + d) (omega arith)))
 
   pub same-bus-to-cpu : (handle : ℕ) (address : BusAddress) (own : List ℕ) → Simulated b (BusToCpu handle address) own
   unfolding step referenceStep partsOf
-  same-bus-to-cpu handle address own = rw (count-same b s, offset-same (handle - 1)) (as-told b s)
+  same-bus-to-cpu handle address own = rw (count-same b s, kept-number (b .records) (s .sized) (handle - 1) offsetAt (omega arith)) (as-told b s)
 
   pub same-cpu-to-bus : (handle : ℕ) (address : CpuAddress) (own : List ℕ) → Simulated b (CpuToBus handle address) own
   unfolding step referenceStep partsOf
-  same-cpu-to-bus handle address own = rw (count-same b s, offset-same (handle - 1)) (as-told b s)
+  same-cpu-to-bus handle address own = rw (count-same b s, kept-number (b .records) (s .sized) (handle - 1) offsetAt (omega arith)) (as-told b s)

@@ -15,13 +15,11 @@ use Rattle.access.specs.Find.{spaceNumber}
 use Rattle.image.specs.Cells.{total}
 use Rattle.image.specs.Image.{imageSize, sum, trailer}
 use Rattle.image.proofs.Lists.{trailer-length}
-use Rattle.reference.specs.declared.Answer.{Answer}
 use Rattle.reference.specs.declared.Call.{Call}
-use Rattle.reference.specs.declared.Call.the-variants.{Load, Reset, WriteImage, FindPciDevice, FindPciClasscode, ReadConfig, FastReadConfig, WriteConfig, ReadData, FastReadData, WriteData, BusToCpu, CpuToBus, ListWindow}
-use Rattle.reference.specs.State.{next}
-use Rattle.reference.specs.Reference.{Reference, Told, told, exponentOf, joined, imageBytes, targetOf, placeFor, withCellsOf, writeOf, verdict, referenceStep, referenceStart}
+use Rattle.reference.specs.declared.Call.the-variants.{Load, Reset, WriteImage, FindPciDevice, FindPciClasscode, ReadConfig, FastReadConfig, WriteConfig, ReadData, FastReadData, WriteData, BusToCpu, CpuToBus, GetResource, HookInterrupt, UnhookInterrupt, ListChain, GetCardUsed, SetCardUsed, SpecialCycle, GetRouting, SetInterrupt, ListWindow}
+use Rattle.reference.specs.Reference.{Reference, exponentOf, joined, imageBytes, targetOf, placeFor, writeOf, verdict, referenceStep, referenceStart}
 use Rattle.reference.specs.Run.{Asked, stepOn, referenceAfter, partsOf}
-use Rattle.reference.specs.Claims.{Touch, none, every, touch, addressed, mayTouch, Alike, Framed, Frame}
+use Rattle.reference.specs.Claims.{Touch, none, every, touch, addressed, mayTouch, Framed, Frame}
 use Rattle.reference.proofs.Tests.{ifTest, ifTarget, ifAt}
 use Rattle.reference.proofs.Alike.{alike, touched, zeroed-alike, table-alike, front-alike, written-alike}
 use Rattle.reference.proofs.Records.{joined-length}
@@ -30,33 +28,7 @@ use Rattle.reference.proofs.Sound.{Sound}
 use Rattle.reference.proofs.Configuration.{left, follows, writes}
 use Rattle.reference.proofs.Simulation.{same, sound-start, start-same}
 use Rattle.reference.proofs.Refinement.{goes}
-
--- what the claim says of the reference machine's outcome
-abbrev Stays : Touch → Reference → List ℕ → Told → Type 0
-Stays t b own r = Framed t (partsOf b) own (next (r .answer) (partsOf (r .reference)) (r .own))
-
--- a call that leaves the board but for cells that it may touch, and of its own buffer what it may not touch
-cells-and-own : (t : Touch) (b : Reference) (cells own out : List ℕ) (a : Answer) → Alike (t .cells) cells (b .cells) → Alike (t .own) out own
-    → Stays t b own (told a (withCellsOf cells b) out)
-unfolding partsOf
-cells-and-own t b cells own out a c k =
-    record {
-      header = λ e. refl;
-      records = λ e. refl;
-      offsets = λ e. refl;
-      registers = alike _ _;
-      list = λ e. refl;
-      hooks = λ e. refl;
-      used = alike _ _;
-      cells = c;
-      own = k;
-    }
-
-own-only : (t : Touch) (b : Reference) (own out : List ℕ) (a : Answer) → Alike (t .own) out own → Stays t b own (told a b out)
-own-only t b own out a k = cells-and-own t b (b .cells) own out a (alike (t .cells) (b .cells)) k
-
-keeps : (t : Touch) (b : Reference) (own : List ℕ) (a : Answer) → Stays t b own (told a b own)
-keeps t b own a = own-only t b own own a (alike (t .own) own)
+use Rattle.reference.proofs.Stays.{Stays, cells-and-own, own-only, keeps, stays-resource, stays-hook, stays-unhook, stays-used}
 
 -- what a write of w registers may touch
 abbrev writeTouch : ℕ → ℕ → ℕ → Touch
@@ -163,6 +135,15 @@ module _ (b : Reference) (s : Sound b) (own : List ℕ) where
       (λ r e. rw e (keeps _ b own _))
   stays (BusToCpu handle address) = keeps (mayTouch b (BusToCpu handle address) own) b own _
   stays (CpuToBus handle address) = keeps (mayTouch b (CpuToBus handle address) own) b own _
+  stays (GetResource handle) = stays-resource b own handle
+  stays (HookInterrupt handle handler parameter) = stays-hook b own handle handler parameter
+  stays (UnhookInterrupt handle) = stays-unhook b own handle
+  stays (ListChain line place) = keeps (mayTouch b (ListChain line place) own) b own _
+  stays (GetCardUsed handle) = keeps (mayTouch b (GetCardUsed handle) own) b own _
+  stays (SetCardUsed handle status callBack) = stays-used b own handle status callBack
+  stays (SpecialCycle bus message) = keeps (mayTouch b (SpecialCycle bus message) own) b own _
+  stays (GetRouting handle) = keeps (mayTouch b (GetRouting handle) own) b own _
+  stays (SetInterrupt handle mode) = keeps (mayTouch b (SetInterrupt handle mode) own) b own _
   stays (ListWindow n) = keeps (mayTouch b (ListWindow n) own) b own _
 
 framed : (b : Reference) → Sound b → (c : Asked) → Framed (mayTouch b (c .call) (c .own)) (partsOf b) (c .own) (stepOn (partsOf b) c)

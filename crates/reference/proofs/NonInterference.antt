@@ -8,7 +8,8 @@ use Rattle.reference.specs.Reference.{Reference, referenceStart}
 use Rattle.reference.specs.Run.{Asked, referenceAnswers, referenceAfter, partsOf}
 use Rattle.reference.specs.Claims.{Refinement, struckOut, left, leftHeard, Unseen, NonInterference}
 use Rattle.reference.proofs.Like.{Like, by-cells, like-both}
-use Rattle.reference.proofs.Seen.{quiet, seen}
+use Rattle.reference.proofs.Quiet.{quiet}
+use Rattle.reference.proofs.Seen.{seen}
 
 -- the run on all calls, against the run on those that are left
 record Purged (h : ℕ) (b d : Reference) (cs : List Asked) : Type 0 where

@@ -1,14 +1,13 @@
 -- Claim 1: a refused call changes nothing and gives a stated number and the filler.
 use Prim.Native.Nat.{ℕ, zero, suc}
-use mathlib.Core.Bool.{true, false, not, _||_, false≢true}
+use mathlib.Core.Bool.{false≢true}
 use mathlib.Core.Logic.{inl, inr}
 use mathlib.Core.Path.{_≡_, refl}
 use mathlib.Core.List.{List, [], _∷_}
 use lib.Dec.{ltb, eqb}
-use lib.IntN.{pos}
 use lib.ListN.{length, getD}
-use Rattle.board.specs.Parts.{Parts}
-use Rattle.board.specs.Layout.{functionsMax, windowsMax}
+use Rattle.board.specs.Parts.{Parts, withRegisters}
+use Rattle.board.specs.Layout.{windowsMax}
 use Rattle.board.specs.declared.address.BusAddress.{BusAddress}
 use Rattle.board.specs.declared.number.Width.{Width}
 use Rattle.board.specs.declared.status.Status.{Status}
@@ -21,6 +20,7 @@ use Rattle.window_list.specs.Listing.{listing, numberOf, valuesOf}
 use Rattle.config.specs.Target.{target}
 use Rattle.config.specs.declared.target.Target.{Target}
 use Rattle.config.specs.declared.target.Target.the-variants.{Function, Refused}
+use Rattle.config.specs.Write.{writeConfig}
 use Rattle.config.specs.Search.{searched, foundNumber}
 use Rattle.access.specs.Cells.{placeOf, dataPlace}
 use Rattle.access.specs.Find.{spaceNumber}
@@ -29,62 +29,23 @@ use Rattle.access.specs.declared.find.Finding.the-variants.{Found, BadHandle, S
 use Rattle.access.specs.declared.find.Space.{Space}
 use Rattle.access.specs.declared.place.Place.{Place}
 use Rattle.access.specs.declared.place.Place.the-variants.{At, Refused as NoPlace}
-use Rattle.image.specs.Image.{trailerSize, imageSize}
-use Rattle.image.specs.Refusals.{Facts, imageMax, cellsMax, accepted, refused, badRecord, firstRefusal}
-use Rattle.image.specs.Check.{factsOf, checked}
+use Rattle.image.specs.Image.{imageSize}
 use Rattle.load.specs.Load.{load, reset}
 use Rattle.image.specs.Write.{write}
-use Rattle.image.specs.declared.check.Verdict.{Verdict}
 use Rattle.reference.specs.declared.Call.{Call}
-use Rattle.reference.specs.declared.Call.the-variants.{Load, Reset, WriteImage, FindPciDevice, FindPciClasscode, ReadConfig, FastReadConfig, WriteConfig, ReadData, FastReadData, WriteData, BusToCpu, CpuToBus, ListWindow}
-use Rattle.reference.specs.Answers.{answer, ofSearch}
-use Rattle.reference.specs.State.{Next, next, step}
-use Rattle.reference.specs.Claims.{dataRefusals, Among, refusals, Filler, Untouched, Refusal}
+use Rattle.reference.specs.declared.Call.the-variants.{Load, Reset, WriteImage, FindPciDevice, FindPciClasscode, ReadConfig, FastReadConfig, WriteConfig, ReadData, FastReadData, WriteData, BusToCpu, CpuToBus, GetResource, HookInterrupt, UnhookInterrupt, ListChain, GetCardUsed, SetCardUsed, SpecialCycle, GetRouting, SetInterrupt, ListWindow}
+use Rattle.reference.specs.Answers.{answer, ofStatus, ofSearch}
+use Rattle.reference.specs.State.{next, step}
+use Rattle.reference.specs.Claims.{dataRefusals, Among, refusals, Filler, Refusal}
 use Rattle.reference.proofs.Tests.{ifTest, ifEither, ifTarget, ifAt}
-
--- what the claim says of one outcome
-abbrev Kept : Parts → Call → List ℕ → Next → Type 0
-Kept p c own n = n .answer .refused ≡ true → Untouched p c own n
-
--- an accepted call is not refused
-not-refused : {A : Type 0} → false ≡ true → A
-not-refused e = absurd (false≢true e)
-
--- every verdict is acceptance, the refusal of a record, or one of the other numbers
-pub data Stated : Verdict → Type 0 where
-  fine : Stated accepted
-  bad : (i : ℕ) → Stated (badRecord i)
-  plain : (n : ℕ) → Among (pos n) (refusals Load) → eqb n 0 ≡ false → Stated (refused n)
-
-facts-stated : (f : Facts) (room : ℕ) → Stated (firstRefusal f room)
-unfolding firstRefusal
-facts-stated f room =
-    ifTest Stated (ltb (f .length) trailerSize) (λ e. plain 1 (inl refl) refl) (λ e.
-    ifTest Stated (not (eqb (f .edition) 1)) (λ e. plain 2 (inr (inl refl)) refl) (λ e.
-    ifTest Stated (eqb (f .count) 0 || ltb functionsMax (f .count)) (λ e. plain 3 (inr (inr (inl refl))) refl) (λ e.
-    ifTest Stated (not (eqb (f .distance) (imageSize (f .count))) || ltb (f .length) (imageSize (f .count)))
-    (λ e. plain 4 (inr (inr (inr (inl refl)))) refl) (λ e.
-    ifTest Stated (not (eqb (f .sum) (f .said))) (λ e. plain 5 (inr (inr (inr (inr (inl refl))))) refl) (λ e.
-    ifTest Stated (ltb (f .bad) (f .count)) (λ e. bad (f .bad)) (λ e.
-    ifTest Stated (ltb cellsMax (f .total)) (λ e. plain 7 (inr (inr (inr (inr (inr (inr (inl refl))))))) refl) (λ e.
-    ifTest Stated (ltb room (f .total)) (λ e. plain 8 (inr (inr (inr (inr (inr (inr (inr (inl refl)))))))) refl) (λ e. fine))))))))
-
-stated : (image : List ℕ) (room : ℕ) → Stated (checked image room)
-unfolding checked
-stated image room = ifTest Stated (ltb imageMax (length image)) (λ e. plain 1 (inl refl) refl) (λ e. facts-stated (factsOf image) room)
-
--- a verdict is one of them: what is proved need not be said of the term that judges
-ifVerdict : {X : Type 0} {v : Verdict} → Stated v → (v ≡ accepted → X) → ((i : ℕ) → v ≡ badRecord i → X)
-    → ((n : ℕ) → Among (pos n) (refusals Load) → eqb n 0 ≡ false → v ≡ refused n → X) → X
-ifVerdict fine f g h = f refl
-ifVerdict (bad i) f g h = g i refl
-ifVerdict (plain n a z) f g h = h n a z refl
+use Rattle.reference.proofs.Verdicts.{stated, ifVerdict}
+use Rattle.reference.proofs.Refused.{Kept, not-refused, untouched, kept-resource, kept-hook, kept-unhook, kept-chain, kept-get-used, kept-set-used}
 
 -- a listing refuses exactly past the end
 list-kept : (p : Parts) (own : List ℕ) (n : ℕ) (l : List Window) (m : ℕ)
     → Kept p (ListWindow n) own (next (answer (numberOf (listing l m)) (valuesOf (listing l m))) p own)
 unfolding listing
-list-kept p own n [] m = λ e. record { number = inl refl; filler = refl; parts = refl; own = refl }
+list-kept p own n [] m = λ e. untouched (inl refl) refl
 list-kept p own n (w ∷ l) zero = λ e. not-refused e
 list-kept p own n (w ∷ l) (suc m) = list-kept p own n l m
 
@@ -92,19 +53,29 @@ list-kept p own n (w ∷ l) (suc m) = list-kept p own n l m
 search-kept : (p : Parts) (c : Call) (own : List ℕ) → Among (deviceNotFound .0) (refusals c) → Filler c (ofSearch (deviceNotFound .0))
     → (hs : List ℕ) (m : ℕ) → Kept p c own (next (ofSearch (foundNumber (searched hs m))) p own)
 unfolding searched
-search-kept p c own n f [] m = λ e. record { number = n; filler = f; parts = refl; own = refl }
+search-kept p c own n f [] m = λ e. untouched n f
 search-kept p c own n f (h ∷ hs) zero = λ e. not-refused e
 search-kept p c own n f (h ∷ hs) (suc m) = search-kept p c own n f hs m
 
--- what a configuration access is for
-abbrev targetAt : Parts → Width → ℕ → ℕ → Target
-targetAt p width handle register = target (isHandle (p .header) handle) (bytes width) handle register
+-- what a configuration access of w bytes is for
+abbrev targetAt : Parts → ℕ → ℕ → ℕ → Target
+targetAt p w handle register = target (isHandle (p .header) handle) w handle register
 
 -- it is for a function, or is refused with one of the two numbers
-ifFunction : {X : Type 0} (p : Parts) (width : Width) (handle register : ℕ) → ((i : ℕ) → targetAt p width handle register ≡ Function i → X)
-    → (targetAt p width handle register ≡ Refused badRegisterNumber → X) → (targetAt p width handle register ≡ Refused badHandle → X) → X
-ifFunction {X} p width handle register f r h =
-    ifTarget (λ t. targetAt p width handle register ≡ t → X) (functionCount (p .header)) (bytes width) handle register (λ i l e k. f i) r h refl
+ifFunction : {X : Type 0} (p : Parts) (w handle register : ℕ) → ((i : ℕ) → targetAt p w handle register ≡ Function i → X)
+    → (targetAt p w handle register ≡ Refused badRegisterNumber → X) → (targetAt p w handle register ≡ Refused badHandle → X) → X
+ifFunction {X} p w handle register f r h =
+    ifTarget (λ t. targetAt p w handle register ≡ t → X) (functionCount (p .header)) w handle register (λ i l e k. f i) r h refl
+
+-- a write of any w bytes
+write-kept : (p : Parts) (own : List ℕ) (width : Width) (w handle register value : ℕ)
+    → Kept p (WriteConfig width handle register value) own
+    (let o = writeConfig w (p .header) (p .records) (p .registers) (p .windows) handle register value in
+    next (ofStatus (o .status)) (withRegisters (o .registers) (o .windows) p) own)
+write-kept p own width w handle register value =
+    ifFunction p w handle register (λ i e. rw e (λ f. not-refused f))
+    (λ e. rw e (λ f. untouched (inr (inl refl)) refl))
+    (λ e. rw e (λ f. untouched (inl refl) refl))
 
 -- where a data access stands
 abbrev placeAt : Parts → Space → Width → ℕ → BusAddress → Place
@@ -133,45 +104,51 @@ pub refusal : Refusal
 unfolding step load reset write
 refusal p Load own =
     ifVerdict (stated own (length (p .cells))) (λ e. rw e (λ f. not-refused f))
-    (λ i e. rw e (λ f. record { number = inr (inr (inr (inr (inr (inl refl))))); filler = inr (refl, refl); parts = refl; own = refl }))
-    (λ n a z e. rw (e, z) (λ f. record { number = a; filler = inl refl; parts = refl; own = refl }))
+    (λ i e. rw e (λ f. untouched (inr (inr (inr (inr (inr (inl refl)))))) (inr (refl, refl))))
+    (λ n a z e. rw (e, z) (λ f. untouched a (inl refl)))
 refusal p Reset own =
     ifEither (ltb (length (p .cells)) (getD (p .cellOffsets) windowsMax 0))
-    (λ e. rw e (λ f. record { number = inl refl; filler = refl; parts = refl; own = refl })) (λ e. rw e (λ f. not-refused f))
+    (λ e. rw e (λ f. untouched (inl refl) refl)) (λ e. rw e (λ f. not-refused f))
 refusal p WriteImage own =
     ifEither (ltb (length own) (imageSize (functionCount (p .header))))
-    (λ e. rw e (λ f. record { number = inl refl; filler = refl; parts = refl; own = refl }))
+    (λ e. rw e (λ f. untouched (inl refl) refl))
     (λ e.
     ifEither (eqb (functionCount (p .header)) 0)
-    (λ z. rw (e, z) (λ f. record { number = inr (inl refl); filler = refl; parts = refl; own = refl }))
+    (λ z. rw (e, z) (λ f. untouched (inr (inl refl)) refl))
     (λ z. rw (e, z) (λ f. not-refused f)))
 refusal p (FindPciDevice id index) own = search-kept p (FindPciDevice id index) own (inl refl) refl _ index
 refusal p (FindPciClasscode class index) own = search-kept p (FindPciClasscode class index) own (inl refl) refl _ index
 refusal p (ReadConfig width handle register) own =
-    ifFunction p width handle register (λ i e. rw e (λ f. not-refused f))
-    (λ e. rw e (λ f. record { number = inr (inl refl); filler = refl; parts = refl; own = refl }))
-    (λ e. rw e (λ f. record { number = inl refl; filler = refl; parts = refl; own = refl }))
+    ifFunction p (bytes width) handle register (λ i e. rw e (λ f. not-refused f))
+    (λ e. rw e (λ f. untouched (inr (inl refl)) refl))
+    (λ e. rw e (λ f. untouched (inl refl) refl))
 refusal p (FastReadConfig width handle register) own =
-    ifFunction p width handle register (λ i e. rw e (λ f. not-refused f))
-    (λ e. rw e (λ f. record { number = inl refl; filler = refl; parts = refl; own = refl }))
-    (λ e. rw e (λ f. record { number = inl refl; filler = refl; parts = refl; own = refl }))
-refusal p (WriteConfig width handle register value) own =
-    ifFunction p width handle register (λ i e. rw e (λ f. not-refused f))
-    (λ e. rw e (λ f. record { number = inr (inl refl); filler = refl; parts = refl; own = refl }))
-    (λ e. rw e (λ f. record { number = inl refl; filler = refl; parts = refl; own = refl }))
+    ifFunction p (bytes width) handle register (λ i e. rw e (λ f. not-refused f))
+    (λ e. rw e (λ f. untouched (inl refl) refl))
+    (λ e. rw e (λ f. untouched (inl refl) refl))
+refusal p (WriteConfig width handle register value) own = write-kept p own width _ handle register value
 refusal p (ReadData space width handle address) own =
     ifPlace p space width handle address (λ at order e. rw e (λ f. not-refused f))
-    (λ s a e. rw e (λ f. record { number = a; filler = refl; parts = refl; own = refl }))
+    (λ s a e. rw e (λ f. untouched a refl))
 refusal p (FastReadData space width handle address) own =
     ifPlace p space width handle address (λ at order e. rw e (λ f. not-refused f))
-    (λ s a e. rw e (λ f. record { number = inl refl; filler = refl; parts = refl; own = refl }))
+    (λ s a e. rw e (λ f. untouched (inl refl) refl))
 refusal p (WriteData space width handle address value) own =
     ifPlace p space width handle address (λ at order e. rw e (λ f. not-refused f))
-    (λ s a e. rw e (λ f. record { number = a; filler = refl; parts = refl; own = refl }))
+    (λ s a e. rw e (λ f. untouched a refl))
 refusal p (BusToCpu handle address) own =
     ifEither (isHandle (p .header) handle) (λ e. rw e (λ f. not-refused f))
-    (λ e. rw e (λ f. record { number = inl refl; filler = refl; parts = refl; own = refl }))
+    (λ e. rw e (λ f. untouched (inl refl) refl))
 refusal p (CpuToBus handle address) own =
     ifEither (isHandle (p .header) handle) (λ e. rw e (λ f. not-refused f))
-    (λ e. rw e (λ f. record { number = inl refl; filler = refl; parts = refl; own = refl }))
+    (λ e. rw e (λ f. untouched (inl refl) refl))
+refusal p (GetResource handle) own = kept-resource p own handle
+refusal p (HookInterrupt handle handler parameter) own = kept-hook p own handle handler parameter
+refusal p (UnhookInterrupt handle) own = kept-unhook p own handle
+refusal p (ListChain line place) own = kept-chain p own line place
+refusal p (GetCardUsed handle) own = kept-get-used p own handle
+refusal p (SetCardUsed handle status callBack) own = kept-set-used p own handle status callBack
+refusal p (SpecialCycle bus message) own = λ f. untouched (inl refl) refl
+refusal p (GetRouting handle) own = λ f. untouched (inl refl) refl
+refusal p (SetInterrupt handle mode) own = λ f. untouched (inl refl) refl
 refusal p (ListWindow n) own = list-kept p own n (unpacked (p .windows)) n

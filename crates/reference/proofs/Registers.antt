@@ -7,10 +7,10 @@ use mathlib.Core.Path.{_≡_, sym, _∙_, ap}
 use mathlib.Core.List.{List, [], _∷_}
 use lib.ListN.{length}
 use lib.Seq.{ext-getD}
-use Rattle.board.specs.Numbers.{byteAt, little}
+use Rattle.board.specs.Numbers.{byteAt, little, big}
 use Rattle.board.specs.Tables.{table}
 use Rattle.board.specs.Layout.{functionsMax, bases, recordSize, masksAt, entriesAt, entrySize, registersEach, recordByte, exponent, registerByte}
-use Rattle.board.proofs.Numbers.{little-same}
+use Rattle.board.proofs.Numbers.{little-same, big-same}
 use Rattle.board.proofs.Tables.{table-length, table-get}
 use Rattle.window_list.specs.Windows.{listOf, windowList}
 use Rattle.window_list.proofs.Meaning.{list-same}
@@ -52,6 +52,11 @@ module _ (rs : List (List ℕ)) (s : Sized rs) where
   pub kept-byte : (i at : ℕ) → at < recordSize → recordByte (padded (joined rs)) i at ≡ byteAt (recordOf rs i) at
   kept-byte i at h =
       zeros-after (joined rs) (functionsMax * recordSize - length (joined rs)) (recordSize * i + at) ∙ joined-byte rs s i at h
+
+  -- a number of 4 bytes there
+  pub kept-number : (i at : ℕ) → at + 4 ≤ recordSize → big 4 (recordByte (padded (joined rs)) i) at ≡ big 4 (byteAt (recordOf rs i)) at
+  kept-number i at h =
+      big-same 4 (recordByte (padded (joined rs)) i) (byteAt (recordOf rs i)) at at (λ d l. ap (λ n. n % 256) (kept-byte i (at + d) (omega arith)))
 
   pub kept-exponent : (i b : ℕ) → b < bases → exponent (padded (joined rs)) i b ≡ exponentOf rs i b
   kept-exponent i b h =

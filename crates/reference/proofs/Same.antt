@@ -9,9 +9,11 @@ use lib.Dec.{eqb}
 use lib.ListN.{length, drop, replicate, length-take}
 use borrow.Author.Tests.{eqb-true}
 use Rattle.board.specs.Numbers.{byteAt}
-use Rattle.board.specs.Tables.{tableFrom, table, filledUp}
+use Rattle.board.specs.Tables.{tableFrom}
 use Rattle.board.specs.Layout.{functionsMax, bases, windowsMax, recordSize, entriesAt, entrySize, registersEach, hookSize, markSize, exponent}
 use Rattle.board.proofs.Tables.{table-same}
+use Rattle.interrupt.specs.Hooks.{lastLine, numbers, packed}
+use Rattle.interrupt.specs.Used.{marksOf}
 use Rattle.image.specs.Cells.{total, cellsBefore, offsetsOf}
 use Rattle.image.specs.Image.{imageSize, countOf, recordsOf, recordAt}
 use Rattle.image.specs.Check.{factsOf, checked}
@@ -19,7 +21,7 @@ use Rattle.load.specs.Load.{padded, registersOf, restarted, installed}
 use Rattle.image.proofs.Ranges.{offset-at, before-same}
 use Rattle.image.proofs.Accepted.{accepted-image, records-length}
 use Rattle.reference.specs.Reference.{recordOf, exponentOf, joined, fresh, imageRecords, imageFacts, verdict}
-use Rattle.reference.specs.Run.{numbers, lineByLine, markNumber, partsOf}
+use Rattle.reference.specs.Run.{lineByLine, partsOf}
 use Rattle.reference.proofs.Records.{Sized, split-length, split-sized, split-joined, split-byte, split-record, bad-same}
 use Rattle.reference.proofs.Registers.{flat, kept-byte, kept-exponent, list-kept}
 
@@ -28,11 +30,11 @@ pub offsets-same : (k k′ : ℕ → ℕ → ℕ) → ((i b : ℕ) → b < bases
 offsets-same k k′ e = table-same 0 0 (windowsMax + 1) (cellsBefore k) (cellsBefore k′) (λ j h. before-same k k′ (0 + j) (λ i l. e (i / bases) (i % bases) (omega arith)))
 
 -- hooks and marks cleared
-pub no-hooks : filledUp (functionsMax * hookSize) (lineByLine (λ line. []) functionsMax) ≡ replicate (functionsMax * hookSize) 0
+pub no-hooks : packed (lineByLine (λ line. []) (lastLine + 1)) ≡ replicate (functionsMax * hookSize) 0
 unfolding lineByLine numbers
 no-hooks = refl
 
-pub no-marks : table (functionsMax * markSize) (markNumber (λ i. record { status = 0; callBack = 0 })) ≡ replicate (functionsMax * markSize) 0
+pub no-marks : marksOf (λ i. record { status = 0; callBack = 0 }) ≡ replicate (functionsMax * markSize) 0
 unfolding tableFrom
 no-marks = refl
 

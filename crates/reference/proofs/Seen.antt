@@ -1,11 +1,11 @@
--- One call on like states: a data call through h keeps them alike; any other call is answered the same, and leaves like states.
-use Prim.Native.Nat.{ℕ, _≤_}
-use mathlib.Core.Bool.{true, false, false≢true}
+-- A call that is not struck out is answered the same on like states, and leaves like states.
+use Prim.Native.Nat.{ℕ, _-_, _≤_}
+use mathlib.Core.Bool.{false, not}
 use mathlib.Core.Path.{_≡_, refl}
 use mathlib.Core.List.{List}
-use lib.Dec.{eqb, ltb}
+use lib.Dec.{eqb, leb, ltb}
 use lib.ListN.{length}
-use borrow.Author.Tests.{eqb-true, eqb-false}
+use borrow.Author.Tests.{eqb-false}
 use Rattle.board.specs.Layout.{functionsMax}
 use Rattle.board.specs.Numbers.{bytes}
 use Rattle.config.specs.declared.target.Target.{Target}
@@ -16,51 +16,22 @@ use Rattle.access.specs.declared.find.Finding.{Finding}
 use Rattle.access.specs.declared.find.Finding.the-variants.{Found, BadHandle, ShortCells, NotAligned, Nothing, Contested, WidthMissing}
 use Rattle.access.specs.declared.place.Place.{Place}
 use Rattle.access.specs.declared.place.Place.the-variants.{At, Refused as NoPlace}
+use Rattle.interrupt.specs.Hooks.{Hook}
+use Rattle.interrupt.specs.Chain.{isRouted}
+use Rattle.interrupt.specs.Meaning.{isAmong}
+use Rattle.interrupt.specs.Used.{Mark}
 use Rattle.image.specs.Cells.{total}
 use Rattle.image.specs.Image.{imageSize}
 use Rattle.reference.specs.declared.Answer.{Answer}
 use Rattle.reference.specs.declared.Call.{Call}
-use Rattle.reference.specs.declared.Call.the-variants.{Load, Reset, WriteImage, FindPciDevice, FindPciClasscode, ReadConfig, FastReadConfig, WriteConfig, ReadData, FastReadData, WriteData, BusToCpu, CpuToBus, ListWindow}
-use Rattle.reference.specs.Reference.{Reference, Told, told, exponentOf, fresh, imageRecords, verdict, targetOf, withCellsOf, placeIn, placeFor, writeOf, writeDataOf, referenceStep}
+use Rattle.reference.specs.declared.Call.the-variants.{Load, Reset, WriteImage, FindPciDevice, FindPciClasscode, ReadConfig, FastReadConfig, WriteConfig, ReadData, FastReadData, WriteData, BusToCpu, CpuToBus, GetResource, HookInterrupt, UnhookInterrupt, ListChain, GetCardUsed, SetCardUsed, SpecialCycle, GetRouting, SetInterrupt, ListWindow}
+use Rattle.reference.specs.Reference.{Reference, Told, told, exponentOf, fresh, imageRecords, verdict, isHandleOf, targetOf, withCellsOf, lineFor, pinFor, withChainOf, withMarkOf, placeIn, placeFor, writeOf, writeDataOf, referenceStep}
 use Rattle.reference.specs.Claims.{struckOut}
 use Rattle.reference.proofs.Tests.{ifBoth}
 use Rattle.reference.proofs.Same.{accepted-whole}
-use Rattle.reference.proofs.InSlot.{InSlot, in-slot}
-use Rattle.reference.proofs.Like.{Like, by-cells, others-written, others-zeroed, others-hidden, value-same}
-
--- a place, if cells are found, lies in a window of the handle's function
-abbrev Lies : Reference → ℕ → ℕ → Place → Type 0
-Lies b w handle p = (at order : ℕ) → p ≡ At at order → InSlot b w handle at
-
--- a data write through h
-hidden : {h : ℕ} {b d : Reference} → Like h b d → (w handle value : ℕ) (own : List ℕ) → handle ≡ h → (p : Place) → Lies b w handle p
-    → Like h (writeDataOf b w value own p .reference) d
-hidden {h} {b} {d} l w handle value own q (At at order) s =
-    record {
-      few = l .few;
-      rest = l .rest;
-      others = others-hidden b (b .cells) (d .cells) (l .others) w handle at order (s at order refl) value q;
-    }
-hidden l w handle value own q (NoPlace n) s = l
-
-pub quiet : {h : ℕ} {b d : Reference} → Like h b d → (c : Call) (own : List ℕ) → struckOut h c ≡ true
-    → Like h (referenceStep b c own .reference) d
-unfolding referenceStep
-quiet l Load own t = absurd (false≢true t)
-quiet l Reset own t = absurd (false≢true t)
-quiet l WriteImage own t = absurd (false≢true t)
-quiet l (FindPciDevice id index) own t = absurd (false≢true t)
-quiet l (FindPciClasscode class index) own t = absurd (false≢true t)
-quiet l (ReadConfig width handle register) own t = absurd (false≢true t)
-quiet l (FastReadConfig width handle register) own t = absurd (false≢true t)
-quiet l (WriteConfig width handle register value) own t = absurd (false≢true t)
-quiet l (ReadData space width handle address) own t = l
-quiet l (FastReadData space width handle address) own t = l
-quiet {h} {b} l (WriteData space width handle address value) own t =
-    hidden l (bytes width) handle value own (eqb-true handle h t) _ (in-slot b width (spaceNumber space) handle (address .0))
-quiet l (BusToCpu handle address) own t = absurd (false≢true t)
-quiet l (CpuToBus handle address) own t = absurd (false≢true t)
-quiet l (ListWindow n) own t = absurd (false≢true t)
+use Rattle.reference.proofs.InSlot.{in-slot}
+use Rattle.reference.proofs.Like.{Like, by-cells, others-written, others-zeroed, value-same}
+use Rattle.reference.proofs.Quiet.{Lies}
 
 -- equal answers and own buffers, and like states
 pub record Both (h : ℕ) (t u : Told) : Type 0 where
@@ -127,6 +98,36 @@ module _ {h : ℕ} (b : Reference) (m : List ℕ) (l : Like h b (withCellsOf m b
       both-told (record { few = l .few; rest = refl; others = others-written (b .records) (b .cells) m order w at value (l .others) })
   seen-write w value (NoPlace s) = both-told l
 
+  -- another chain or mark in both
+  like-chain : (line : ℕ) (chain : List Hook) → Like h (withChainOf line chain b) (withChainOf line chain (withCellsOf m b))
+  like-chain line chain = record { few = l .few; rest = refl; others = l .others }
+
+  like-mark : (i : ℕ) (k : Mark) → Like h (withMarkOf i k b) (withMarkOf i k (withCellsOf m b))
+  like-mark i k = record { few = l .few; rest = refl; others = l .others }
+
+  seen-hook : (handle handler parameter : ℕ) → Seen (HookInterrupt handle handler parameter)
+  unfolding referenceStep
+  seen-hook handle handler parameter =
+      let line = lineFor b handle in
+      ifBoth (Both h) (isHandleOf b handle)
+      (λ g.
+      ifBoth (Both h) (isRouted (pinFor b handle) line)
+      (λ r. ifBoth (Both h) (not (isAmong handle (b .chains line))) (λ f. both-told (like-chain line _)) (λ f. both-told l)) (λ r. both-told l))
+      (λ g. both-told l)
+
+  seen-unhook : (handle : ℕ) → Seen (UnhookInterrupt handle)
+  unfolding referenceStep
+  seen-unhook handle =
+      let line = lineFor b handle in
+      ifBoth (Both h) (isHandleOf b handle)
+      (λ g. ifBoth (Both h) (isAmong handle (b .chains line)) (λ f. both-told (like-chain line _)) (λ f. both-told l)) (λ g. both-told l)
+
+  seen-used : (handle status callBack : ℕ) → Seen (SetCardUsed handle status callBack)
+  unfolding referenceStep
+  seen-used handle status callBack =
+      ifBoth (Both h) (isHandleOf b handle)
+      (λ g. ifBoth (Both h) (leb status 3) (λ e. both-told (like-mark (handle - 1) _)) (λ e. both-told l)) (λ g. both-told l)
+
   seen-with : (c : Call) → struckOut h c ≡ false → Seen c
   unfolding referenceStep
   seen-with Load t = seen-load
@@ -148,6 +149,15 @@ module _ {h : ℕ} (b : Reference) (m : List ℕ) (l : Like h b (withCellsOf m b
       (seen-write (bytes width) value (placeFor b (bytes width) (spaceNumber space) handle (address .0)))
   seen-with (BusToCpu handle address) t = both-told l
   seen-with (CpuToBus handle address) t = both-told l
+  seen-with (GetResource handle) t = both-told l
+  seen-with (HookInterrupt handle handler parameter) t = seen-hook handle handler parameter
+  seen-with (UnhookInterrupt handle) t = seen-unhook handle
+  seen-with (ListChain line place) t = both-told l
+  seen-with (GetCardUsed handle) t = both-told l
+  seen-with (SetCardUsed handle status callBack) t = seen-used handle status callBack
+  seen-with (SpecialCycle bus message) t = both-told l
+  seen-with (GetRouting handle) t = both-told l
+  seen-with (SetInterrupt handle mode) t = both-told l
   seen-with (ListWindow n) t = both-told l
 
 pub seen : {h : ℕ} {b d : Reference} → Like h b d → (c : Call) (own : List ℕ) → struckOut h c ≡ false

@@ -20,21 +20,25 @@ use Rattle.image.specs.Write.{write}
 use Rattle.load.proofs.Lists.{zeroed-length}
 use Rattle.image.proofs.Ranges.{offset-at}
 use Rattle.reference.specs.declared.Call.{Call}
-use Rattle.reference.specs.declared.Call.the-variants.{Load, Reset, WriteImage, FindPciDevice, FindPciClasscode, ReadConfig, FastReadConfig, WriteConfig, ReadData, FastReadData, WriteData, BusToCpu, CpuToBus, ListWindow}
+use Rattle.reference.specs.declared.Call.the-variants.{Load, Reset, WriteImage, FindPciDevice, FindPciClasscode, ReadConfig, FastReadConfig, WriteConfig, ReadData, FastReadData, WriteData, BusToCpu, CpuToBus, GetResource, HookInterrupt, UnhookInterrupt, ListChain, GetCardUsed, SetCardUsed, SpecialCycle, GetRouting, SetInterrupt, ListWindow}
 use Rattle.reference.specs.State.{step}
 use Rattle.reference.specs.Reference.{Reference, exponentOf, joined, fresh, imageRecords, windowsOf, imageBytes, verdict, referenceStep, referenceStart}
 use Rattle.reference.specs.Run.{partsOf, start}
 use Rattle.reference.proofs.Tests.{ifEither}
 use Rattle.reference.proofs.Records.{Sized, joined-length}
 use Rattle.reference.proofs.Same.{verdict-same, accepted-whole, installed-same, restart-same, no-hooks, no-marks}
+use Rattle.reference.proofs.Chained.{no-chains}
 use Rattle.reference.proofs.Sound.{Sound, Simulated, as-told, count-same}
 use Rattle.reference.proofs.Configuration.{same-device, same-class, same-read, same-fast-read, same-write-config}
 use Rattle.reference.proofs.Data.{same-read-data, same-fast-read-data, same-write-data, same-bus-to-cpu, same-cpu-to-bus}
+use Rattle.reference.proofs.Resource.{same-resource}
+use Rattle.reference.proofs.Chains.{same-hook, same-unhook, same-list-chain}
+use Rattle.reference.proofs.Used.{same-get-used, same-set-used}
 
 -- a fresh board is sound
 fresh-sound : (rs : List (List ℕ)) (cells : List ℕ) → length rs ≤ functionsMax → Sized rs → total (exponentOf rs) ≤ length cells → Sound (fresh rs cells)
 fresh-sound rs cells f s h =
-    record { few = f; sized = s; fits = rw (zeroed-length (total (exponentOf rs)) cells h) h }
+    record { few = f; sized = s; fits = rw (zeroed-length (total (exponentOf rs)) cells h) h; chained = no-chains rs }
 
 module _ (b : Reference) (s : Sound b) where
   same-load : (own : List ℕ) → Simulated b Load own
@@ -87,6 +91,7 @@ module _ (b : Reference) (s : Sound b) where
       (as-told b s)
 
   pub same : (c : Call) (own : List ℕ) → Simulated b c own
+  unfolding step referenceStep
   same Load own = same-load own
   same Reset own = same-reset own
   same WriteImage own = same-write own
@@ -100,6 +105,15 @@ module _ (b : Reference) (s : Sound b) where
   same (WriteData space width handle address value) own = same-write-data b s space width handle address value own
   same (BusToCpu handle address) own = same-bus-to-cpu b s handle address own
   same (CpuToBus handle address) own = same-cpu-to-bus b s handle address own
+  same (GetResource handle) own = same-resource b s handle own
+  same (HookInterrupt handle handler parameter) own = same-hook b s handle handler parameter own
+  same (UnhookInterrupt handle) own = same-unhook b s handle own
+  same (ListChain line place) own = same-list-chain b s line place own
+  same (GetCardUsed handle) own = same-get-used b s handle own
+  same (SetCardUsed handle status callBack) own = same-set-used b s handle status callBack own
+  same (SpecialCycle bus message) own = as-told b s
+  same (GetRouting handle) own = as-told b s
+  same (SetInterrupt handle mode) own = as-told b s
   same (ListWindow n) own = same-list n own
 
 no-cells : total (exponentOf []) ≡ 0
@@ -107,7 +121,7 @@ unfolding cellsBefore
 no-cells = refl
 
 pub sound-start : (cells : List ℕ) → Sound (referenceStart cells)
-sound-start cells = record { few = omega arith; sized = tt; fits = rw no-cells (omega arith) }
+sound-start cells = record { few = omega arith; sized = tt; fits = rw no-cells (omega arith); chained = no-chains [] }
 
 no-windows : keptList (listOf 0 (exponentOf []) (λ i register. 0)) ≡ replicate windowsMax 0
 unfolding keptList listOf openWindows gather putAll

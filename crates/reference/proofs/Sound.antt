@@ -1,22 +1,29 @@
 -- What every reference state of a run has, and what is proved of each call on its lent parts.
-use Prim.Native.Nat.{ℕ, _≤_, min}
+use Prim.Native.Nat.{ℕ, _<_, _≤_, min}
 use native.Mathlib.Nat.{min-eq-left}
+use mathlib.Core.Bool.{true}
 use mathlib.Core.Path.{_≡_, refl}
 use mathlib.Core.List.{List}
+use lib.Dec.{leb}
 use lib.ListN.{length}
+use borrow.Author.Tests.{leb-true}
+use Rattle.board.specs.Handles.{isHandle}
 use Rattle.board.specs.Layout.{functionsMax}
+use Rattle.board.proofs.Tests.{both-true}
 use Rattle.image.specs.Cells.{total}
 use Rattle.reference.specs.declared.Answer.{Answer}
 use Rattle.reference.specs.declared.Call.{Call}
 use Rattle.reference.specs.State.{Next, next, step}
-use Rattle.reference.specs.Reference.{Reference, Told, told, exponentOf, referenceStep}
+use Rattle.reference.specs.Reference.{Reference, Told, told, exponentOf, isHandleOf, referenceStep}
 use Rattle.reference.specs.Run.{partsOf}
 use Rattle.reference.proofs.Records.{Sized}
+use Rattle.reference.proofs.Chained.{Chained}
 
 pub record Sound (b : Reference) : Type 0 where
   pub few : length (b .records) ≤ functionsMax
   pub sized : Sized (b .records)
   pub fits : total (exponentOf (b .records)) ≤ length (b .cells)
+  pub chained : Chained (b .records) (b .chains)
 
 pub record Same (n : Next) (t : Told) : Type 0 where
   pub answer : n .answer ≡ t .answer
@@ -33,5 +40,18 @@ module _ (b : Reference) (s : Sound b) where
   pub as-told : {a : Answer} {own : List ℕ} → Same (next a (partsOf b) own) (told a b own)
   as-told = record { answer = refl; parts = refl; own = refl; sound = s }
 
+  pub answered : {a a′ : Answer} {own : List ℕ} → a ≡ a′ → Same (next a (partsOf b) own) (told a′ b own)
+  answered e = record { answer = e; parts = refl; own = refl; sound = s }
+
   pub count-same : min (length (b .records)) functionsMax ≡ length (b .records)
   count-same = min-eq-left (s .few)
+
+  pub handle-same : (handle : ℕ) → isHandle (partsOf b .header) handle ≡ isHandleOf b handle
+  unfolding partsOf
+  handle-same handle = rw count-same
+
+-- a good handle is from 1 to the count
+pub handle-within : (b : Reference) (handle : ℕ) → isHandleOf b handle ≡ true → (0 < handle) × (handle ≤ length (b .records))
+handle-within b handle g =
+    let t = both-true (leb 1 handle) (leb handle (length (b .records))) g in
+    (leb-true 1 handle (t .0), leb-true handle (length (b .records)) (t .1))

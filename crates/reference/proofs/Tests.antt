@@ -1,4 +1,4 @@
--- A choice taken apart: of one term, of two terms that make the same test, of a test by itself, of what a configuration access is for, and of where a data access stands.
+-- A choice taken apart: of one term, of two terms that make the same test or tests that come out alike, of a test by itself, of what a configuration access is for, and of where a data access stands.
 use Prim.Native.Nat.{ℕ, _+_, _-_, _%_, _<_, _≤_}
 use native.Mathlib.Omega.{arith}
 use mathlib.Core.Bool.{Bool, true, false, cond, _&&_}
@@ -23,6 +23,11 @@ pub ifBoth : {A B : Type 0} (P : A → B → Type 0) (t : Bool) {x y : A} {x′ 
     → P (cond t x y) (cond t x′ y′)
 ifBoth P true p q = p refl
 ifBoth P false p q = q refl
+
+-- two tests that come out alike
+pub ifAlike : {A B : Type 0} (P : A → B → Type 0) {t u : Bool} {x y : A} {x′ y′ : B} → t ≡ u → (u ≡ true → P x x′) → (u ≡ false → P y y′)
+    → P (cond t x y) (cond u x′ y′)
+ifAlike P {t} {u} e p q = rw e (ifBoth P u p q)
 
 -- a test came out one way or the other: what is proved need not be said of the term that makes it
 pub ifEither : {X : Type 0} (t : Bool) → (t ≡ true → X) → (t ≡ false → X) → X

@@ -1,7 +1,7 @@
 -- Answers as numbers: rules on plain values, which the program's step and the reference machine share.
 use Prim.Native.Nat.{ℕ, zero, suc}
 use mathlib.Core.Bool.{Bool, true, false}
-use mathlib.Core.List.{List, _∷_}
+use mathlib.Core.List.{List, _∷_, _++_}
 use lib.IntN.{ℤ, pos, negsuc}
 use lib.ListN.{replicate}
 use Rattle.board.specs.declared.status.Status.{Status}
@@ -9,6 +9,7 @@ use Rattle.board.specs.declared.read.Read.{Read}
 use Rattle.board.specs.declared.read.FastRead.{FastRead}
 use Rattle.access.specs.declared.convert.ToBus.{ToBus}
 use Rattle.access.specs.declared.convert.ToCpu.{ToCpu}
+use Rattle.interrupt.specs.declared.used.CardUsed.{CardUsed}
 use Rattle.image.specs.declared.check.Verdict.{Verdict}
 use Rattle.reference.specs.declared.Answer.{Answer}
 
@@ -58,3 +59,11 @@ ofToCpu r = answer (r .status .0) (one (r .address .0))
 
 abbrev pub ofToBus : ToBus → Answer
 ofToBus r = answer (r .status .0) (one (r .address .0))
+
+-- the number of a chain listing, and handle, handler, parameter
+abbrev pub ofChain : ℤ → List ℕ → Answer
+ofChain number values = answer number (values ++ replicate 3 0)
+
+-- a used mark: status and call-back address
+abbrev pub ofUsed : CardUsed → Answer
+ofUsed u = answer (u .status .0) (u .used ∷ u .«call_back» ∷ replicate 4 0)

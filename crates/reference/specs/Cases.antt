@@ -3,8 +3,9 @@ use Prim.Native.Nat.{ℕ}
 use mathlib.Core.List.{List, [], _∷_, _++_, map}
 use mathlib.Core.Path.{_≡_}
 use lib.IntN.{pos}
-use lib.ListN.{replicate, set}
+use lib.ListN.{length, replicate, set}
 use Rattle.board.specs.Layout.{recordSize}
+use Rattle.board.specs.Numbers.{bigBytes}
 use Rattle.board.specs.Statuses.{successful, deviceNotFound, generalError}
 use Rattle.board.specs.declared.number.Width.the-variants.{Byte, Long}
 use Rattle.access.specs.Cells.{valueAt}
@@ -12,8 +13,8 @@ use Rattle.access.specs.Orders.{placed}
 use Rattle.access.specs.declared.find.Space.the-variants.{Memory}
 use Rattle.reference.specs.declared.Answer.{Answer}
 use Rattle.reference.specs.declared.Call.{Call}
-use Rattle.reference.specs.declared.Call.the-variants.{Load, FindPciDevice, FindPciClasscode, ReadConfig, WriteConfig, WriteData, ListWindow}
-use Rattle.reference.specs.Answers.{answer, zeros, one, ofStatus, ofSearch}
+use Rattle.reference.specs.declared.Call.the-variants.{Load, FindPciDevice, FindPciClasscode, ReadConfig, WriteConfig, WriteData, GetResource, HookInterrupt, ListChain, ListWindow}
+use Rattle.reference.specs.Answers.{answer, zeros, one, ofStatus, ofSearch, ofChain}
 use Rattle.reference.specs.Reference.{referenceStart}
 use Rattle.reference.specs.Run.{asked, heard, referenceAnswers}
 
@@ -57,9 +58,11 @@ pub record Reading : Type 0 where
 abbrev pub reading : ℕ → ℕ → ℕ → Reading
 reading order width value = record { order = order; width = width; value = value }
 
--- a case: calls, each without a buffer of its own, and the answers that they give on a fresh B1; or cells, and what is read of them
+-- a case: calls, each without a buffer of its own, and the answers that they give on a fresh B1; a call with a buffer of zeros, and the bytes that it leaves
+-- there; or cells, and what is read of them
 pub data Case : Type 0 where
   case : List Call → List Answer → Case
+  buffer : Call → List ℕ → Case
   cells : List ℕ → List Reading → Case
 
 -- a handle found; a number and a value; a window listed
@@ -71,6 +74,13 @@ value v = answer (successful .0) (one v)
 
 abbrev pub listed : ℕ → ℕ → ℕ → ℕ → ℕ → ℕ → Answer
 listed space start length handle base contested = answer (successful .0) (space ∷ start ∷ length ∷ handle ∷ base ∷ contested ∷ [])
+
+-- a hook listed; the bytes of a descriptor: next (20), flags, start, length, offset and dmaoffset (both 0)
+abbrev pub chained : ℕ → ℕ → ℕ → Answer
+chained handle handler parameter = ofChain (successful .0) (handle ∷ handler ∷ parameter ∷ [])
+
+abbrev pub descriptor : ℕ → ℕ → ℕ → List ℕ
+descriptor flags start length = bigBytes 2 20 ++ (bigBytes 2 flags ++ (bigBytes 4 start ++ (bigBytes 4 length ++ replicate 8 0)))
 
 -- the three windows of B1, with the start of handle 2's memory window and the mark of both
 abbrev pub list : ℕ → ℕ → List Answer
@@ -120,17 +130,29 @@ p11 =
     case (WriteConfig Long 2 0x10 0x80000000 ∷ listing ++ WriteConfig Long 2 0x10 0x80000400 ∷ listing)
     (ofStatus successful ∷ list 0x80000000 1 ++ ofStatus successful ∷ list 0x80000400 0)
 
+abbrev pub p12 : Case
+p12 = buffer (GetResource 2) (descriptor 0x0701 0x80000400 0x400 ++ descriptor 0xC102 0x100 0x10)
+
 abbrev pub p13 : Case
 p13 = cells (0x11 ∷ 0x22 ∷ 0x33 ∷ 0x44 ∷ []) (reading 1 2 0x3344 ∷ reading 1 1 0x44 ∷ reading 2 4 0x44332211 ∷ [])
 
+-- handlers and parameters of any kind
+abbrev pub p14 : Case
+p14 =
+    case (HookInterrupt 2 0x2000 7 ∷ HookInterrupt 1 0x1000 8 ∷ ListChain 5 0 ∷ ListChain 5 1 ∷ ListChain 5 2 ∷ [])
+    (ofStatus successful ∷ ofStatus successful ∷ chained 2 0x2000 7 ∷ chained 1 0x1000 8 ∷ ofStatus deviceNotFound ∷ [])
+
 abbrev pub table : List Case
-table = b1List ∷ p1 ∷ p2 ∷ p3 ∷ p4 ∷ p5 ∷ p6 ∷ p7 ∷ p8 ∷ p9 ∷ p10 ∷ p11 ∷ p13 ∷ []
+table = b1List ∷ p1 ∷ p2 ∷ p3 ∷ p4 ∷ p5 ∷ p6 ∷ p7 ∷ p8 ∷ p9 ∷ p10 ∷ p11 ∷ p12 ∷ p13 ∷ p14 ∷ []
 
 -- a case holds where the reference machine, with B1's 2,064 cells, loads B1 and then gives its answers; or where the byte-order rule gives what is read
 abbrev pub Holds : Case → Type 0
 Holds (case calls answers) =
     referenceAnswers (referenceStart (replicate 2064 0)) (asked Load b1 ∷ map (λ call. asked call []) calls)
     ≡ heard (ofStatus successful) b1 ∷ map (λ a. heard a []) answers
+Holds (buffer call left) =
+    referenceAnswers (referenceStart (replicate 2064 0)) (asked Load b1 ∷ asked call (replicate (length left) 0) ∷ [])
+    ≡ heard (ofStatus successful) b1 ∷ heard (ofStatus successful) left ∷ []
 Holds (cells l readings) = map (λ r. valueAt (r .order) (r .width) (placed (r .order) (r .width) 0) l) readings ≡ map (λ r. r .value) readings
 
 -- THE PROVED CASES: every row of the table holds

@@ -8,18 +8,20 @@ use lib.Dec.{eqb, leb, ltb}
 use lib.IntN.{ℤ, pos}
 use lib.ListN.{length, getD, replicate}
 use Rattle.board.specs.Parts.{Parts}
-use Rattle.board.specs.Layout.{bases, registersEach}
+use Rattle.board.specs.Layout.{bases, registersEach, markSize}
 use Rattle.board.specs.Numbers.{bytes}
-use Rattle.board.specs.Statuses.{funcNotSupported, deviceNotFound, badRegisterNumber, bufferTooSmall, generalError, badHandle}
+use Rattle.board.specs.Statuses.{funcNotSupported, deviceNotFound, badRegisterNumber, bufferTooSmall, generalError, badHandle, setFailed}
 use Rattle.config.specs.Write.{movesWindows}
 use Rattle.access.specs.Find.{spaceNumber}
 use Rattle.access.specs.declared.place.Place.{Place}
 use Rattle.access.specs.declared.place.Place.the-variants.{At, Refused}
+use Rattle.resource.specs.Descriptor.{size}
+use Rattle.resource.specs.Resource.{windowBases}
 use Rattle.image.specs.Cells.{slotCells, cellsBefore, total}
 use Rattle.image.specs.Image.{imageSize}
 use Rattle.reference.specs.declared.Answer.{Answer}
 use Rattle.reference.specs.declared.Call.{Call}
-use Rattle.reference.specs.declared.Call.the-variants.{Load, Reset, WriteImage, FindPciDevice, FindPciClasscode, ReadConfig, FastReadConfig, WriteConfig, ReadData, FastReadData, WriteData, BusToCpu, CpuToBus, ListWindow}
+use Rattle.reference.specs.declared.Call.the-variants.{Load, Reset, WriteImage, FindPciDevice, FindPciClasscode, ReadConfig, FastReadConfig, WriteConfig, ReadData, FastReadData, WriteData, BusToCpu, CpuToBus, GetResource, HookInterrupt, UnhookInterrupt, ListChain, GetCardUsed, SetCardUsed, SpecialCycle, GetRouting, SetInterrupt, ListWindow}
 use Rattle.reference.specs.Answers.{zeros, one}
 use Rattle.reference.specs.State.{Next, step}
 use Rattle.reference.specs.Reference.{Reference, exponentOf, imageRecords, placeFor, referenceStart}
@@ -44,6 +46,15 @@ refusals (FastReadData space width handle address) = pos 0 ∷ []
 refusals (WriteData space width handle address value) = dataRefusals
 refusals (BusToCpu handle address) = badHandle .0 ∷ []
 refusals (CpuToBus handle address) = badHandle .0 ∷ []
+refusals (GetResource handle) = badHandle .0 ∷ generalError .0 ∷ bufferTooSmall .0 ∷ []
+refusals (HookInterrupt handle handler parameter) = badHandle .0 ∷ generalError .0 ∷ setFailed .0 ∷ []
+refusals (UnhookInterrupt handle) = badHandle .0 ∷ generalError .0 ∷ []
+refusals (ListChain line place) = generalError .0 ∷ deviceNotFound .0 ∷ []
+refusals (GetCardUsed handle) = badHandle .0 ∷ []
+refusals (SetCardUsed handle status callBack) = badHandle .0 ∷ generalError .0 ∷ []
+refusals (SpecialCycle bus message) = funcNotSupported .0 ∷ []
+refusals (GetRouting handle) = funcNotSupported .0 ∷ []
+refusals (SetInterrupt handle mode) = funcNotSupported .0 ∷ []
 refusals (ListWindow n) = deviceNotFound .0 ∷ []
 
 abbrev pub Among : ℤ → List ℤ → Type 0
@@ -65,6 +76,15 @@ Filler (FastReadData space width handle address) a = a .values ≡ one (256 ^ by
 Filler (WriteData space width handle address value) a = a .values ≡ zeros
 Filler (BusToCpu handle address) a = a .values ≡ zeros
 Filler (CpuToBus handle address) a = a .values ≡ zeros
+Filler (GetResource handle) a = a .values ≡ zeros
+Filler (HookInterrupt handle handler parameter) a = a .values ≡ zeros
+Filler (UnhookInterrupt handle) a = a .values ≡ zeros
+Filler (ListChain line place) a = a .values ≡ zeros
+Filler (GetCardUsed handle) a = a .values ≡ zeros
+Filler (SetCardUsed handle status callBack) a = a .values ≡ zeros
+Filler (SpecialCycle bus message) a = a .values ≡ zeros
+Filler (GetRouting handle) a = a .values ≡ zeros
+Filler (SetInterrupt handle mode) a = a .values ≡ zeros
 Filler (ListWindow n) a = a .values ≡ zeros
 
 -- A refused call gives a stated number and the filler, and leaves every lent part and its own buffer as they were.
@@ -134,6 +154,16 @@ mayTouch b (WriteData space width handle address value) own =
     touch false none false false none (accessed (bytes width) (placeFor b (bytes width) (spaceNumber space) handle (address .0))) none
 mayTouch b (BusToCpu handle address) own = touch false none false false none none none
 mayTouch b (CpuToBus handle address) own = touch false none false false none none none
+mayTouch b (GetResource handle) own =
+    touch false none false false none none (λ i. ltb i (size * length (windowBases (exponentOf (b .records) (handle - 1)))))
+mayTouch b (HookInterrupt handle handler parameter) own = touch false none false true none none none
+mayTouch b (UnhookInterrupt handle) own = touch false none false true none none none
+mayTouch b (ListChain line place) own = touch false none false false none none none
+mayTouch b (GetCardUsed handle) own = touch false none false false none none none
+mayTouch b (SetCardUsed handle status callBack) own = touch false none false false (λ j. eqb (j / markSize + 1) handle) none none
+mayTouch b (SpecialCycle bus message) own = touch false none false false none none none
+mayTouch b (GetRouting handle) own = touch false none false false none none none
+mayTouch b (SetInterrupt handle mode) own = touch false none false false none none none
 mayTouch b (ListWindow n) own = touch false none false false none none none
 
 -- two lists have the same length, and the same wherever a touch is not allowed
@@ -175,6 +205,15 @@ struckOut h (FastReadData space width handle address) = eqb handle h
 struckOut h (WriteData space width handle address value) = eqb handle h
 struckOut h (BusToCpu handle address) = false
 struckOut h (CpuToBus handle address) = false
+struckOut h (GetResource handle) = false
+struckOut h (HookInterrupt handle handler parameter) = false
+struckOut h (UnhookInterrupt handle) = false
+struckOut h (ListChain line place) = false
+struckOut h (GetCardUsed handle) = false
+struckOut h (SetCardUsed handle status callBack) = false
+struckOut h (SpecialCycle bus message) = false
+struckOut h (GetRouting handle) = false
+struckOut h (SetInterrupt handle mode) = false
 struckOut h (ListWindow n) = false
 
 -- what is left of a run, and what is heard of that

@@ -1,13 +1,13 @@
 -- The reference machine: document 01, "Runs and the book". It is fed the cell buffer's bytes at the start, then each call's arguments, and keeps no window list.
 use Prim.Native.Nat.{ℕ, zero, suc, _+_, _-_, _*_, _/_, _%_, _^_}
-use mathlib.Core.Bool.{Bool, cond, _&&_}
+use mathlib.Core.Bool.{Bool, cond, not, _&&_}
 use mathlib.Core.List.{List, [], _∷_, _++_}
 use lib.Dec.{eqb, leb, ltb}
 use lib.IntN.{pos}
 use lib.ListN.{length, getD, take, drop}
 use Rattle.board.specs.Numbers.{byteAt, bytes, big}
-use Rattle.board.specs.Layout.{bases, recordSize, masksAt, entriesAt, entrySize, offsetAt}
-use Rattle.board.specs.Statuses.{successful, bufferTooSmall}
+use Rattle.board.specs.Layout.{bases, recordSize, masksAt, entriesAt, entrySize, offsetAt, dmaOffsetAt, baseRegister}
+use Rattle.board.specs.Statuses.{successful, funcNotSupported, bufferTooSmall}
 use Rattle.window_list.specs.Windows.{Window, listOf}
 use Rattle.window_list.specs.Listing.{listedNumber, listedValues}
 use Rattle.config.specs.Target.{target}
@@ -25,6 +25,12 @@ use Rattle.access.specs.declared.find.Finding.{Finding}
 use Rattle.access.specs.declared.find.Finding.the-variants.{Found, BadHandle, ShortCells, NotAligned, Nothing, Contested, WidthMissing}
 use Rattle.access.specs.declared.place.Place.{Place}
 use Rattle.access.specs.declared.place.Place.the-variants.{At, Refused as NoPlace}
+use Rattle.resource.specs.Resource.{Source, resource}
+use Rattle.interrupt.specs.Hooks.{Hook, hook}
+use Rattle.interrupt.specs.Chain.{isRouted, hookChecks, unhookChecks}
+use Rattle.interrupt.specs.Meaning.{isAmong, without}
+use Rattle.interrupt.specs.Listing.{chainNumber, chainValues}
+use Rattle.interrupt.specs.Used.{Mark, newMark, usedOf, setChecks}
 use Rattle.image.specs.Cells.{cellsBefore, total, zeroed}
 use Rattle.image.specs.Image.{imageSize, countOf, recordsOf, sum, trailer}
 use Rattle.image.specs.Refusals.{Facts, imageMax, refused, firstRefusal}
@@ -32,17 +38,8 @@ use Rattle.image.specs.Check.{facts}
 use Rattle.image.specs.declared.check.Verdict.{Verdict}
 use Rattle.reference.specs.declared.Answer.{Answer}
 use Rattle.reference.specs.declared.Call.{Call}
-use Rattle.reference.specs.declared.Call.the-variants.{Load, Reset, WriteImage, FindPciDevice, FindPciClasscode, ReadConfig, FastReadConfig, WriteConfig, ReadData, FastReadData, WriteData, BusToCpu, CpuToBus, ListWindow}
-use Rattle.reference.specs.Answers.{answer, zeros, ofStatus, ofVerdict, ofSearch, ofRead, ofFastRead, ofToCpu, ofToBus}
-
-pub record Hook : Type 0 where
-  pub handle : ℕ
-  pub handler : ℕ
-  pub parameter : ℕ
-
-pub record Mark : Type 0 where
-  pub status : ℕ
-  pub callBack : ℕ
+use Rattle.reference.specs.declared.Call.the-variants.{Load, Reset, WriteImage, FindPciDevice, FindPciClasscode, ReadConfig, FastReadConfig, WriteConfig, ReadData, FastReadData, WriteData, BusToCpu, CpuToBus, GetResource, HookInterrupt, UnhookInterrupt, ListChain, GetCardUsed, SetCardUsed, SpecialCycle, GetRouting, SetInterrupt, ListWindow}
+use Rattle.reference.specs.Answers.{answer, zeros, ofStatus, ofVerdict, ofSearch, ofRead, ofFastRead, ofToCpu, ofToBus, ofChain, ofUsed}
 
 -- the loaded records one by one; registers by function and number; the whole cell buffer; each line's hooks in order; used marks by function
 pub record Reference : Type 0 where
@@ -160,6 +157,52 @@ withCellsOf cells b = record { records = b .records; registers = b .registers; c
 abbrev pub offsetOf : List (List ℕ) → ℕ → ℕ
 offsetOf records i = big 4 (byteAt (recordOf records i)) offsetAt
 
+abbrev pub dmaOffsetOf : List (List ℕ) → ℕ → ℕ
+dmaOffsetOf records i = big 4 (byteAt (recordOf records i)) dmaOffsetAt
+
+-- what a function's descriptors are made of; the window list is worked out afresh
+abbrev pub sourceFor : Reference → ℕ → Source
+sourceFor b handle =
+    let i = handle - 1 in
+    record {
+      handle = handle;
+      windows = windowsOf b;
+      exponent = exponentOf (b .records) i;
+      order = λ base. entryOf (b .records) i base 1;
+      widths = λ base. entryOf (b .records) i base 2;
+      register = baseRegister (b .registers i);
+      offset = offsetOf (b .records) i;
+      dmaOffset = dmaOffsetOf (b .records) i;
+    }
+
+-- a function's line and pin are the loaded ones: later writes there do not reroute
+abbrev pub lineFor : Reference → ℕ → ℕ
+lineFor b handle = byteAt (recordOf (b .records) (handle - 1)) 0x3C
+
+abbrev pub pinFor : Reference → ℕ → ℕ
+pinFor b handle = byteAt (recordOf (b .records) (handle - 1)) 0x3D
+
+-- another chain on a line, another mark of the function at place i
+abbrev pub withChainOf : ℕ → List Hook → Reference → Reference
+withChainOf line chain b =
+    record {
+      records = b .records;
+      registers = b .registers;
+      cells = b .cells;
+      chains = λ l. cond (eqb l line) chain (b .chains l);
+      used = b .used;
+    }
+
+abbrev pub withMarkOf : ℕ → Mark → Reference → Reference
+withMarkOf i m b =
+    record {
+      records = b .records;
+      registers = b .registers;
+      cells = b .cells;
+      chains = b .chains;
+      used = λ j. cond (eqb j i) m (b .used j);
+    }
+
 -- the answer, the next state, and the call's own buffer
 pub record Told : Type 0 where
   pub answer : Answer
@@ -209,4 +252,26 @@ referenceStep b (BusToCpu handle address) own =
     told (ofToCpu (toCpu (isHandleOf b handle) (offsetOf (b .records) (handle - 1)) address)) b own
 referenceStep b (CpuToBus handle address) own =
     told (ofToBus (toBus (isHandleOf b handle) (offsetOf (b .records) (handle - 1)) address)) b own
+referenceStep b (GetResource handle) own =
+    let g = resource (isHandleOf b handle) (sourceFor b handle) own in
+    told (ofStatus (g .status)) b (g .out)
+referenceStep b (HookInterrupt handle handler parameter) own =
+    let line = lineFor b handle in
+    let chain = b .chains line in
+    hookChecks (isHandleOf b handle) (isRouted (pinFor b handle) line) (not (isAmong handle chain))
+    (told (ofStatus successful) (withChainOf line (chain ++ hook handle handler parameter ∷ []) b) own) (λ s. told (ofStatus s) b own)
+referenceStep b (UnhookInterrupt handle) own =
+    let line = lineFor b handle in
+    let chain = b .chains line in
+    unhookChecks (isHandleOf b handle) (isAmong handle chain)
+    (told (ofStatus successful) (withChainOf line (without handle chain) b) own) (λ s. told (ofStatus s) b own)
+referenceStep b (ListChain line place) own =
+    told (ofChain (chainNumber (b .chains line) line place) (chainValues (b .chains line) line place)) b own
+referenceStep b (GetCardUsed handle) own = told (ofUsed (usedOf (isHandleOf b handle) (b .used (handle - 1)))) b own
+referenceStep b (SetCardUsed handle status callBack) own =
+    setChecks (isHandleOf b handle) status
+    (told (ofStatus successful) (withMarkOf (handle - 1) (newMark status callBack) b) own) (λ s. told (ofStatus s) b own)
+referenceStep b (SpecialCycle bus message) own = told (ofStatus funcNotSupported) b own
+referenceStep b (GetRouting handle) own = told (ofStatus funcNotSupported) b own
+referenceStep b (SetInterrupt handle mode) own = told (ofStatus funcNotSupported) b own
 referenceStep b (ListWindow n) own = told (answer (listedNumber (windowsOf b) n) (listedValues (windowsOf b) n)) b own

@@ -1,19 +1,19 @@
 -- Runs: what is asked, what is heard, and what stands after, of the program and of the reference machine.
 use Prim.Native.Nat.{ℕ, zero, suc, _+_, _*_, _/_, _%_}
-use mathlib.Core.Bool.{cond}
 use mathlib.Core.List.{List, [], _∷_, _++_}
-use lib.Dec.{eqb}
 use lib.ListN.{length, replicate}
-use Rattle.board.specs.Tables.{table, filledUp}
+use Rattle.board.specs.Tables.{table}
 use Rattle.board.specs.Parts.{Parts, parts}
 use Rattle.board.specs.Layout.{functionsMax, recordSize, registersEach, windowsMax, hookSize, markSize}
 use Rattle.window_list.specs.Kept.{keptList}
+use Rattle.interrupt.specs.Hooks.{Hook, lastLine, packed}
+use Rattle.interrupt.specs.Used.{marksOf}
 use Rattle.image.specs.Cells.{offsetsOf}
 use Rattle.load.specs.Load.{padded}
 use Rattle.reference.specs.declared.Answer.{Answer}
 use Rattle.reference.specs.declared.Call.{Call}
 use Rattle.reference.specs.State.{Next, step}
-use Rattle.reference.specs.Reference.{Hook, Mark, Reference, Told, exponentOf, joined, windowsOf, referenceStep}
+use Rattle.reference.specs.Reference.{Reference, Told, exponentOf, joined, windowsOf, referenceStep}
 
 -- a call with its own buffer, and what comes back of both
 pub record Asked : Type 0 where
@@ -55,27 +55,18 @@ unfoldable pub referenceAfter : Reference → List Asked → Reference
 referenceAfter b [] = b
 referenceAfter b (c ∷ cs) = referenceAfter (referenceOn b c .reference) cs
 
--- hooks as three numbers each
-unfoldable pub numbers : List Hook → List ℕ
-numbers [] = []
-numbers (h ∷ hs) = h .handle ∷ h .handler ∷ h .parameter ∷ numbers hs
-
--- those of the first n lines, one line after the other
-unfoldable pub lineByLine : (ℕ → List Hook) → ℕ → List ℕ
+-- the hooks of the first n lines, one line after the other
+unfoldable pub lineByLine : (ℕ → List Hook) → ℕ → List Hook
 lineByLine chains zero = []
-lineByLine chains (suc n) = lineByLine chains n ++ numbers (chains n)
-
--- the two numbers of each mark in turn
-abbrev pub markNumber : (ℕ → Mark) → ℕ → ℕ
-markNumber used j = cond (eqb (j % markSize) 0) (used (j / markSize) .status) (used (j / markSize) .callBack)
+lineByLine chains (suc n) = lineByLine chains n ++ chains n
 
 -- the lent parts of a board that the reference machine describes: every part is a function of it
 unfoldable pub partsOf : Reference → Parts
 partsOf b =
     parts (length (b .records) ∷ 0 ∷ 0 ∷ 0 ∷ []) (padded (joined (b .records)))
     (table (functionsMax * registersEach) (λ j. b .registers (j / registersEach) (j % registersEach))) (keptList (windowsOf b))
-    (offsetsOf (exponentOf (b .records))) (filledUp (functionsMax * hookSize) (lineByLine (b .chains) functionsMax))
-    (table (functionsMax * markSize) (markNumber (b .used))) (b .cells)
+    (offsetsOf (exponentOf (b .records))) (packed (lineByLine (b .chains) (lastLine + 1)))
+    (marksOf (b .used)) (b .cells)
 
 -- the lent parts at the start, with any cells
 unfoldable pub start : List ℕ → Parts

@@ -2,7 +2,7 @@
 use Prim.Native.Nat.{ℕ}
 use mathlib.Core.List.{List}
 use lib.IntN.{pos}
-use Rattle.board.specs.Parts.{Parts, withRegisters, withCells}
+use Rattle.board.specs.Parts.{Parts, withRegisters, withCells, withHooks, withUsed}
 use Rattle.board.specs.Handles.{functionCount}
 use Rattle.board.specs.Layout.{registerByte}
 use Rattle.board.specs.Numbers.{bytes}
@@ -14,12 +14,18 @@ use Rattle.config.specs.Write.{writeConfig}
 use Rattle.access.specs.Convert.{busToCpu, cpuToBus}
 use Rattle.access.specs.Data.{readData, fastReadData, writeData}
 use Rattle.access.specs.Find.{spaceNumber}
+use Rattle.resource.specs.Resource.{getResource}
+use Rattle.interrupt.specs.Hooks.{chainOf}
+use Rattle.interrupt.specs.Chain.{hookInterrupt, unhookInterrupt}
+use Rattle.interrupt.specs.Listing.{chainListing, chainNumberOf, chainValuesOf}
+use Rattle.interrupt.specs.Used.{getCardUsed, setCardUsed}
+use Rattle.interrupt.specs.Unsupported.{specialCycle, getRouting, setInterrupt}
 use Rattle.load.specs.Load.{load, reset}
 use Rattle.image.specs.Write.{write}
 use Rattle.reference.specs.declared.Answer.{Answer}
 use Rattle.reference.specs.declared.Call.{Call}
-use Rattle.reference.specs.declared.Call.the-variants.{Load, Reset, WriteImage, FindPciDevice, FindPciClasscode, ReadConfig, FastReadConfig, WriteConfig, ReadData, FastReadData, WriteData, BusToCpu, CpuToBus, ListWindow}
-use Rattle.reference.specs.Answers.{answer, zeros, ofStatus, ofVerdict, ofSearch, ofRead, ofFastRead, ofToCpu, ofToBus}
+use Rattle.reference.specs.declared.Call.the-variants.{Load, Reset, WriteImage, FindPciDevice, FindPciClasscode, ReadConfig, FastReadConfig, WriteConfig, ReadData, FastReadData, WriteData, BusToCpu, CpuToBus, GetResource, HookInterrupt, UnhookInterrupt, ListChain, GetCardUsed, SetCardUsed, SpecialCycle, GetRouting, SetInterrupt, ListWindow}
+use Rattle.reference.specs.Answers.{answer, zeros, ofStatus, ofVerdict, ofSearch, ofRead, ofFastRead, ofToCpu, ofToBus, ofChain, ofUsed}
 
 -- the answer, the lent parts, and the call's own buffer
 pub record Next : Type 0 where
@@ -58,4 +64,23 @@ step p (WriteData space width handle address value) own =
     next (ofStatus (w .status)) (withCells (w .cells) p) own
 step p (BusToCpu handle address) own = next (ofToCpu (busToCpu (p .header) (p .records) handle address)) p own
 step p (CpuToBus handle address) own = next (ofToBus (cpuToBus (p .header) (p .records) handle address)) p own
+step p (GetResource handle) own =
+    let g = getResource (p .header) (p .records) (p .registers) (p .windows) handle own in
+    next (ofStatus (g .status)) p (g .out)
+step p (HookInterrupt handle handler parameter) own =
+    let w = hookInterrupt (p .header) (p .records) (p .hooks) handle handler parameter in
+    next (ofStatus (w .status)) (withHooks (w .hooks) p) own
+step p (UnhookInterrupt handle) own =
+    let w = unhookInterrupt (p .header) (p .hooks) handle in
+    next (ofStatus (w .status)) (withHooks (w .hooks) p) own
+step p (ListChain line place) own =
+    let l = chainListing (chainOf (p .records) (p .hooks) line) line place in
+    next (ofChain (chainNumberOf l) (chainValuesOf l)) p own
+step p (GetCardUsed handle) own = next (ofUsed (getCardUsed (p .header) (p .used) handle)) p own
+step p (SetCardUsed handle status callBack) own =
+    let w = setCardUsed (p .header) (p .used) handle status callBack in
+    next (ofStatus (w .status)) (withUsed (w .used) p) own
+step p (SpecialCycle bus message) own = next (ofStatus (specialCycle bus message)) p own
+step p (GetRouting handle) own = next (ofStatus (getRouting handle)) p own
+step p (SetInterrupt handle mode) own = next (ofStatus (setInterrupt handle mode)) p own
 step p (ListWindow n) own = let l = listing (unpacked (p .windows)) n in next (answer (numberOf l) (valuesOf l)) p own

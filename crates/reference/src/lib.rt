@@ -60,6 +60,40 @@ pub enum Call {
         handle: u32,
         address: CpuAddress,
     },
+    GetResource {
+        handle: u32,
+    },
+    HookInterrupt {
+        handle: u32,
+        handler: u32,
+        parameter: u32,
+    },
+    UnhookInterrupt {
+        handle: u32,
+    },
+    ListChain {
+        line: u32,
+        place: u32,
+    },
+    GetCardUsed {
+        handle: u32,
+    },
+    SetCardUsed {
+        handle: u32,
+        status: u32,
+        call_back: u32,
+    },
+    SpecialCycle {
+        bus: u8,
+        message: u32,
+    },
+    GetRouting {
+        handle: u32,
+    },
+    SetInterrupt {
+        handle: u32,
+        mode: u32,
+    },
     ListWindow {
         n: u32,
     },

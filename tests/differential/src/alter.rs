@@ -1,31 +1,14 @@
-//! Boards that were used by calls not under test here, and boards that a caller altered.
+//! Boards that a caller altered.
 
 use crate::boards::ENTRIES;
 use crate::parts::{Parts, REGISTERS};
 use crate::random::Random;
 use second::{BASES, FUNCTIONS, RECORD_LENGTH, WINDOWS};
 
-/// Uses a board as drivers do, through `second`: hooks and used marks.
-pub fn use_board(random: &mut Random, parts: &mut Parts) {
-    let mut board = parts.board();
-    for _ in 0..random.within(1..=20) {
-        let handle = random.within(1..=board.functions().max(1)) as u32;
-        let (first, second) = (random.long(), random.long());
-        // Their answers are not looked at: this only makes states.
-        let _ = match random.one_in(2) {
-            true => board.hook_interrupt(handle, first, second),
-            false => board.set_card_used(handle, first % 4, second),
-        };
-    }
-    let used = Parts::of(&board);
-    parts.hooks = used.hooks;
-    parts.used = used.used;
-}
-
 /// Alters one to three of the lent parts in a way that no call does.
 pub fn alter(random: &mut Random, parts: &mut Parts, cells: usize) {
     for _ in 0..random.within(1..=3) {
-        match random.below(12) {
+        match random.below(14) {
             0 => header(random, parts),
             1 => exponents(random, parts),
             2 => record_bytes(random, parts),
@@ -36,6 +19,7 @@ pub fn alter(random: &mut Random, parts: &mut Parts, cells: usize) {
             8 => first_cells(random, parts, cells),
             9 => orders_and_widths(random, parts),
             10 => longs(random, &mut parts.hooks),
+            11 | 12 => hooks(random, parts),
             _ => longs(random, &mut parts.used),
         }
     }
@@ -132,6 +116,27 @@ fn kept_window(random: &mut Random, parts: &mut Parts) {
         parts.windows[at..].rotate_right(1);
     }
     parts.windows[at] = other;
+}
+
+/// Some entries of the hook array without their handle, as another one, in another place,
+/// or with any handle and the handlers that stand there.
+fn hooks(random: &mut Random, parts: &mut Parts) {
+    let (entries, _) = parts.hooks.as_chunks_mut::<3>();
+    let handles = random.within(1..=FUNCTIONS + 2);
+    for _ in 0..random.within(1..=4) {
+        let (one, other) = (random.below(FUNCTIONS), random.below(FUNCTIONS));
+        match random.below(6) {
+            0 | 1 => entries[one][0] = 0,
+            2 => entries[one] = entries[other],
+            3 => entries.swap(one, other),
+            4 => entries[one] = [random.below(handles) as u32, random.long(), random.long()],
+            _ => entries.iter_mut().for_each(|entry| {
+                if entry[0] == 0 {
+                    *entry = [random.below(handles) as u32, random.long(), random.long()];
+                }
+            }),
+        }
+    }
 }
 
 /// Offsets at random; often the total alone, about the length of the cell buffer.

@@ -29,6 +29,7 @@ impl RandomBoard {
             take_after(random, &mut record, &records);
             records.push(record);
         }
+        routes(random, &mut records);
         RandomBoard { notes: notes(random), records }
     }
 
@@ -136,6 +137,26 @@ fn take_after(random: &mut Random, record: &mut Record, earlier: &[Record]) {
     for field in [0x00..0x02, 0x02..0x04, 0x09..0x0A, 0x0A..0x0B, 0x0B..0x0C] {
         if !random.one_in(3) {
             record[field.clone()].copy_from_slice(&other[field]);
+        }
+    }
+}
+
+/// Gives most boards pins and lines that can be hooked, on a few lines, so that chains get
+/// long; at times one function has none.
+fn routes(random: &mut Random, records: &mut [Record]) {
+    if random.one_in(3) {
+        return;
+    }
+    let lines = [random.below(16) as u8, random.below(16) as u8, random.pick(&[0, 15])];
+    for record in records.iter_mut() {
+        record[0x3C] = random.pick(&lines);
+        record[0x3D] = random.within(1..=4) as u8;
+    }
+    if random.one_in(2) {
+        let place = random.below(records.len());
+        match random.one_in(2) {
+            true => records[place][0x3C] = random.pick(&[16, 17, 0x85, 255]),
+            false => records[place][0x3D] = 0,
         }
     }
 }

@@ -1,6 +1,7 @@
 //! The calls that both implementations perform, and what a call hands back.
 
 use crate::access::{Access, DataAccess};
+use crate::chain_calls::ChainCall;
 use crate::parts::first_difference;
 use std::fmt;
 
@@ -52,6 +53,16 @@ pub enum Call {
         handle: u32,
         address: u32,
     },
+    /// What the output buffer holds before.
+    GetResource {
+        handle: u32,
+        out: Vec<u8>,
+    },
+    DescriptorStep {
+        bytes: Vec<u8>,
+        at: usize,
+    },
+    Chain(ChainCall),
 }
 
 impl Call {
@@ -72,6 +83,9 @@ impl Call {
             Call::WriteData { .. } => "write_data",
             Call::BusToCpu { .. } => "bus_to_cpu",
             Call::CpuToBus { .. } => "cpu_to_bus",
+            Call::GetResource { .. } => "get_resource",
+            Call::DescriptorStep { .. } => "descriptor_step",
+            Call::Chain(call) => call.name(),
         }
     }
 }
@@ -102,6 +116,13 @@ impl fmt::Display for Call {
             Call::BusToCpu { handle, address } | Call::CpuToBus { handle, address } => {
                 write!(f, "{name}, handle {handle:#x}, address {address:#x}")
             }
+            Call::GetResource { handle, out } => {
+                write!(f, "{name}, handle {handle:#x}, {} bytes lent", out.len())
+            }
+            Call::DescriptorStep { bytes, at } => {
+                write!(f, "{name} at {at} of {} bytes", bytes.len())
+            }
+            Call::Chain(call) => call.fmt(f),
         }
     }
 }
@@ -109,9 +130,12 @@ impl fmt::Display for Call {
 /// What a call hands back: values that it does not have are 0.
 #[derive(Default)]
 pub struct Answer {
-    /// The number. A fast read has none, and its fault flag stands here.
+    /// The number. A fast read has none, and its fault flag stands here; of a descriptor
+    /// step, 1 where it found a descriptor.
     pub number: i64,
     pub values: [u64; 6],
+    /// The position after a descriptor step.
+    pub following: usize,
     /// The bytes left in the call's own buffer.
     pub out: Vec<u8>,
 }
@@ -136,6 +160,23 @@ impl Answer {
         Answer::with_value(fault.into(), value)
     }
 
+    /// A chain listing's answer: the number, then handle, handler and parameter.
+    pub fn hook(number: i32, [handle, handler, parameter]: [u32; 3]) -> Self {
+        let values = [handle.into(), handler.into(), parameter.into(), 0, 0, 0];
+        Answer { values, ..Answer::number(number.into()) }
+    }
+
+    /// The answer of asking for a used mark: the number, then status and call-back.
+    pub fn used(number: i32, status: u32, call_back: u32) -> Self {
+        let values = [status.into(), call_back.into(), 0, 0, 0, 0];
+        Answer { values, ..Answer::number(number.into()) }
+    }
+
+    /// A descriptor step's answer: whether it found one, its fields and the position after.
+    pub fn step(found: u32, fields: [u32; 6], following: usize) -> Self {
+        Answer { values: fields.map(u64::from), following, ..Answer::number(found.into()) }
+    }
+
     fn with_value(number: i64, value: u32) -> Self {
         Answer { values: [value.into(), 0, 0, 0, 0, 0], ..Answer::number(number) }
     }
@@ -146,6 +187,7 @@ impl Answer {
             return Some(format!("number: proved {}, second {}", self.number, second.number));
         }
         first_difference("values", &self.values, &second.values)
+            .or_else(|| first_difference("following", &[self.following], &[second.following]))
             .or_else(|| first_difference("out", &self.out, &second.out))
     }
 }

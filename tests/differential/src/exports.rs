@@ -127,4 +127,53 @@ extern "C" {
         address: u32,
         bus: *mut u32,
     ) -> i32;
+    pub fn bios_get_resource(
+        header: *const Header,
+        records: *const Records,
+        registers: *const Registers,
+        windows: *const Windows,
+        handle: u32,
+        out: *mut u8,
+        out_length: usize,
+    ) -> i32;
+    pub fn bios_descriptor_step(
+        bytes: *const u8,
+        length: usize,
+        at: usize,
+        fields: *mut [u32; 6],
+        following: *mut usize,
+    ) -> u32;
+    pub fn bios_hook_interrupt(
+        header: *const Header,
+        records: *const Records,
+        hooks: *mut Hooks,
+        handle: u32,
+        handler: u32,
+        parameter: u32,
+    ) -> i32;
+    pub fn bios_unhook_interrupt(header: *const Header, hooks: *mut Hooks, handle: u32) -> i32;
+    pub fn bios_list_chain(
+        records: *const Records,
+        hooks: *const Hooks,
+        line: u32,
+        place: u32,
+        values: *mut [u64; 6],
+    ) -> i32;
+    pub fn bios_get_card_used(
+        header: *const Header,
+        used: *const UsedMarks,
+        handle: u32,
+        mark: *mut u32,
+        call_back: *mut u32,
+    ) -> i32;
+    pub fn bios_set_card_used(
+        header: *const Header,
+        used: *mut UsedMarks,
+        handle: u32,
+        mark: u32,
+        call_back: u32,
+    ) -> i32;
+    pub fn bios_special_cycle(bus: u8, message: u32) -> i32;
+    pub fn bios_get_routing(handle: u32) -> i32;
+    pub fn bios_set_interrupt(handle: u32, mode: u32) -> i32;
 }

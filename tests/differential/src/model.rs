@@ -2,8 +2,11 @@
 
 use crate::access::Access;
 use crate::calls::{Answer, Call};
+use crate::chain_calls::ChainCall;
+use crate::chain_model;
 use crate::data_model;
 use crate::parts::Parts;
+use crate::resource_model;
 use second::{moves_windows, Board, Width, GENERAL_ERROR};
 
 pub struct Second {
@@ -25,6 +28,7 @@ impl Second {
                 self.parts = Parts { header: self.parts.header, ..Parts::of(&board) };
             }
             (Call::WriteConfig { access, .. }, 0) => self.take_write(&board, *access),
+            (Call::Chain(call), 0) => self.take_chain(&board, *call),
             // Every other call leaves the parts as they stand, whatever they hold.
             _ => assert!(board == self.parts.board(), "second changes the board in {call}"),
         }
@@ -64,7 +68,21 @@ impl Second {
             }
             Call::BusToCpu { handle, address } => converted(board.bus_to_cpu(*handle, *address)),
             Call::CpuToBus { handle, address } => converted(board.cpu_to_bus(*handle, *address)),
+            Call::GetResource { handle, out } => resource_model::get_resource(board, *handle, out),
+            Call::DescriptorStep { bytes, at } => resource_model::descriptor_step(bytes, *at),
+            Call::Chain(call) => chain_model::answer(board, *call),
         }
+    }
+
+    /// Takes over what an accepted call changed: hooks, or used marks.
+    fn take_chain(&mut self, board: &Board, call: ChainCall) {
+        let changed = Parts::of(board);
+        match call {
+            ChainCall::Hook { .. } | ChainCall::Unhook { .. } => self.parts.hooks = changed.hooks,
+            ChainCall::SetUsed { .. } => self.parts.used = changed.used,
+            _ => {}
+        }
+        assert!(*board == self.parts.board(), "second changes more than it may in {call}");
     }
 
     /// Takes over what an accepted configuration write changed: registers, and the kept

@@ -2,6 +2,7 @@
 //! leaves is compared.
 
 use crate::calls::{Answer, Call};
+use crate::chain_history::History;
 use crate::model::Second;
 use crate::parts::{first_difference, Parts};
 use crate::proved::Proved;
@@ -10,13 +11,15 @@ use crate::tally::Tally;
 pub struct Pair {
     proved: Proved,
     second: Second,
+    history: History,
 }
 
 impl Pair {
     /// The board before the first load, with a cell buffer of these contents.
     pub fn new(cells: Vec<u8>) -> Self {
         let second = Second::new(cells);
-        Pair { proved: Proved::new(&second.parts, &second.cells), second }
+        let proved = Proved::new(&second.parts, &second.cells);
+        Pair { proved, second, history: History::default() }
     }
 
     pub fn parts(&self) -> &Parts {
@@ -31,7 +34,8 @@ impl Pair {
     pub fn call(&mut self, call: &Call, tally: &mut Tally) -> Result<Answer, String> {
         let before = self.second.parts.clone();
         let expected = self.second.perform(call);
-        tally.count(call, &expected, &before, &self.second);
+        tally.count(call, &expected, &before, &self.second, &self.history);
+        self.history.note(call, &expected, &self.second.parts);
         let answer = self.proved.perform(call)?;
         let difference = answer
             .first_difference(&expected)
@@ -43,6 +47,7 @@ impl Pair {
     /// Gives the parts of both other contents, as a caller may.
     pub fn change_parts(&mut self, change: impl FnOnce(&mut Parts)) {
         change(&mut self.second.parts);
+        self.history = History::default();
         self.proved.lend(&self.second.parts);
     }
 

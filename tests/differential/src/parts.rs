@@ -81,6 +81,26 @@ impl Parts {
         past.filter(|window| window.length != 0).collect()
     }
 
+    /// The entries of the hook array: handle, handler, parameter.
+    pub fn hook_entries(&self) -> &[[u32; 3]] {
+        self.hooks.as_chunks().0
+    }
+
+    /// The line in a function's loaded register 3Ch; 0 where there is no place for it.
+    pub fn loaded_line(&self, handle: u32) -> u8 {
+        byte_of(&self.records, RECORD_LENGTH, handle, 0x3C)
+    }
+
+    /// The pin in its loaded register 3Dh.
+    pub fn loaded_pin(&self, handle: u32) -> u8 {
+        byte_of(&self.records, RECORD_LENGTH, handle, 0x3D)
+    }
+
+    /// The line that its register 3Ch says now.
+    pub fn current_line(&self, handle: u32) -> u8 {
+        byte_of(&self.registers, REGISTERS, handle, 0x3C)
+    }
+
     /// The list that count, records and registers give, whatever is kept.
     pub fn fresh_windows(&self) -> Windows {
         let mut board = self.board();
@@ -117,6 +137,12 @@ pub fn first_difference<T: PartialEq + LowerHex>(
         }
         None => format!("{name}: proved {} long, second {}", proved.len(), second.len()),
     })
+}
+
+/// A byte of a handle's part of an array; 0 where there is none.
+fn byte_of(bytes: &[u8], each: usize, handle: u32, at: usize) -> u8 {
+    let part = bytes.chunks(each).nth((handle as usize).wrapping_sub(1));
+    part.map_or(0, |part| part[at])
 }
 
 /// A kept window as one number: space, start, handle, base, length, contested.

@@ -1,26 +1,28 @@
-//! The proved code behind its C functions. This is the only unsafe code of the tests.
+//! The proved code behind its C functions. This and the same for descriptors and for chains
+//! (resource_proved.rs, chain_proved.rs) is the only unsafe code of the tests.
 
 use crate::access::{Access, DataAccess};
 use crate::calls::{Answer, Call};
 use crate::exports::*;
 use crate::guards::{Guarded, GuardedBytes};
 use crate::parts::*;
+use crate::resource_proved::descriptor_step;
 
 /// What a value handed back holds before the call.
-const UNSET: u32 = 0xDEAD_BEEF;
+pub const UNSET: u32 = 0xDEAD_BEEF;
 
 /// The lent parts and the cell buffer of the proved code, each between guards.
 ///
 /// Every pointer may be written through, so that a write to what is only lent for
 /// reading is seen by the comparison too.
 pub struct Proved {
-    header: Guarded<Header>,
-    records: Guarded<Records>,
-    registers: Guarded<Registers>,
-    windows: Guarded<Windows>,
+    pub header: Guarded<Header>,
+    pub records: Guarded<Records>,
+    pub registers: Guarded<Registers>,
+    pub windows: Guarded<Windows>,
     cell_offsets: Guarded<CellOffsets>,
-    hooks: Guarded<Hooks>,
-    used: Guarded<UsedMarks>,
+    pub hooks: Guarded<Hooks>,
+    pub used: Guarded<UsedMarks>,
     cells: GuardedBytes,
 }
 
@@ -74,6 +76,9 @@ impl Proved {
             Call::WriteData { access, value } => self.write_data(*access, *value),
             Call::BusToCpu { handle, address } => self.bus_to_cpu(*handle, *address)?,
             Call::CpuToBus { handle, address } => self.cpu_to_bus(*handle, *address)?,
+            Call::GetResource { handle, out } => self.get_resource(*handle, out)?,
+            Call::DescriptorStep { bytes, at } => descriptor_step(bytes, *at)?,
+            Call::Chain(call) => self.chain(*call)?,
         };
         kept(self.intact(), "lent parts or cells").map(|()| answer)
     }
@@ -325,7 +330,7 @@ fn check_image(image: &[u8], room: usize) -> Result<Answer, String> {
     Ok(Answer::verdict(number, place.value))
 }
 
-fn kept(intact: bool, what: &str) -> Result<(), String> {
+pub fn kept(intact: bool, what: &str) -> Result<(), String> {
     match intact {
         true => Ok(()),
         false => Err(format!("the proved code wrote outside what it may: {what}")),

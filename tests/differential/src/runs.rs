@@ -1,14 +1,17 @@
 //! One seeded run: random calls on one board and one cell buffer, compared after each.
 
-use crate::alter::{alter, use_board};
+use crate::alter::alter;
 use crate::arguments::{configuration, lent, search};
 use crate::boards::RandomBoard;
-use crate::calls::Call;
+use crate::calls::{Answer, Call};
+use crate::chain_arguments::{chain, hook};
+use crate::chain_calls::ChainCall;
 use crate::damage::damaged;
 use crate::data_arguments::{conversion, data};
 use crate::pair::Pair;
 use crate::parts::Parts;
 use crate::random::Random;
+use crate::resource_arguments::{descriptors, position, resource};
 use crate::tally::Tally;
 use second::{RECORD_LENGTH, TRAILER_LENGTH};
 
@@ -41,7 +44,7 @@ impl<'a> Run<'a> {
     }
 
     fn step(&mut self) -> Result<(), String> {
-        match self.random.below(44) {
+        match self.random.below(56) {
             0..=5 => self.load(),
             6..=8 => self.reset(),
             9..=11 => self.write_image(),
@@ -49,7 +52,7 @@ impl<'a> Run<'a> {
             13 => self.list_some(),
             14 | 15 => self.check_image(),
             16 | 17 => self.change_cells(),
-            18 => self.change_parts(use_board),
+            18 => self.hook_all(),
             19..=21 => {
                 let cells = self.pair.cells().len();
                 self.change_parts(|random, parts| alter(random, parts, cells))
@@ -57,21 +60,26 @@ impl<'a> Run<'a> {
             22..=27 => self.several(|random, pair| configuration(random, pair.parts())),
             28..=31 => self.several(|random, pair| search(random, pair.parts())),
             32..=42 => self.several(data),
-            _ => self.several(conversion),
+            43 => self.several(conversion),
+            44..=48 => self.several(chain),
+            49 => self.list_chains(),
+            50..=53 => self.resources(),
+            _ => {
+                let bytes = descriptors(&mut self.random);
+                self.walk(&bytes)
+            }
         }
     }
 
-    /// Performs a call in both implementations and compares all that it leaves.
     fn call(&mut self, call: Call) -> Result<(), String> {
+        self.answer(call).map(drop)
+    }
+
+    /// Performs a call in both implementations and compares all that it leaves.
+    fn answer(&mut self, call: Call) -> Result<Answer, String> {
         self.calls += 1;
         let outcome = self.pair.call(&call, self.tally);
-        let told = |difference| format!("call {} ({call}): {difference}", self.calls);
-        let answer = outcome.map_err(told)?;
-        if let (Call::WriteImage { .. }, 0) = (&call, answer.number) {
-            self.written = answer.out;
-            self.written.truncate(self.image_length());
-        }
-        Ok(())
+        outcome.map_err(|difference| format!("call {} ({call}): {difference}", self.calls))
     }
 
     /// Calls of one kind in a row: what one leaves is the next one's board. On an empty
@@ -103,7 +111,12 @@ impl<'a> Run<'a> {
         let any = self.random.below(fits + 2000);
         let length = self.random.pick(&[0, 11, 12, fits - 1, fits, fits, fits + 1, any]);
         let out = self.random.bytes(length);
-        self.call(Call::WriteImage { out })
+        let answer = self.answer(Call::WriteImage { out })?;
+        if answer.number == 0 {
+            self.written = answer.out;
+            self.written.truncate(fits);
+        }
+        Ok(())
     }
 
     /// Lists every window, the place after the last, the next, and the last of all.
@@ -129,6 +142,56 @@ impl<'a> Run<'a> {
             false => lent(&mut self.random, usize::MAX, cells),
         };
         self.call(Call::CheckImage { image, room })
+    }
+
+    /// Hooks all functions in any order.
+    fn hook_all(&mut self) -> Result<(), String> {
+        let mut handles: Vec<_> = (1..=self.pair.parts().functions() as u32).collect();
+        self.random.shuffle(&mut handles);
+        for handle in handles {
+            let call = hook(&mut self.random, handle);
+            self.call(Call::Chain(call))?;
+        }
+        Ok(())
+    }
+
+    /// Lists every line that there is to its end, and the one after.
+    fn list_chains(&mut self) -> Result<(), String> {
+        for line in 0..=16 {
+            for place in 0.. {
+                let call = Call::Chain(ChainCall::List { line, place });
+                if self.answer(call)?.number != 0 {
+                    break;
+                }
+            }
+        }
+        Ok(())
+    }
+
+    /// Asks for the descriptors of functions, and walks over some of them.
+    fn resources(&mut self) -> Result<(), String> {
+        for _ in 0..self.random.within(1..=4) {
+            let call = resource(&mut self.random, &self.pair);
+            let answer = self.answer(call)?;
+            if self.random.one_in(4) {
+                self.walk(&answer.out)?;
+            }
+        }
+        Ok(())
+    }
+
+    /// Walks over descriptors to the end, and makes some steps elsewhere.
+    fn walk(&mut self, bytes: &[u8]) -> Result<(), String> {
+        let step = |at| Call::DescriptorStep { bytes: bytes.to_vec(), at };
+        let mut answer = self.answer(step(0))?;
+        while answer.number == 1 {
+            answer = self.answer(step(answer.following))?;
+        }
+        for _ in 0..3 {
+            let at = position(&mut self.random, bytes.len());
+            self.call(step(at))?;
+        }
+        Ok(())
     }
 
     /// Gives all cells other contents: data writes alone would leave most of them 0.

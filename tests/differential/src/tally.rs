@@ -1,15 +1,16 @@
 //! How often each answer came up, and which that can occur never did.
 
 use crate::calls::{Answer, Call};
-use crate::data_met;
-use crate::met;
+use crate::chain_history::History;
 use crate::model::Second;
 use crate::parts::Parts;
+use crate::{chain_met, data_met, met, resource_met};
 use std::collections::BTreeMap;
 use std::ops::RangeInclusive;
 
-/// Every answer that can occur, by call; of a fast read, the fault flag.
-const ANSWERS: [(&str, &[RangeInclusive<i64>]); 15] = [
+/// Every answer that can occur, by call; of a fast read, the fault flag; of a descriptor
+/// step, whether it found one.
+const ANSWERS: [(&str, &[RangeInclusive<i64>]); 25] = [
     ("load", &[0..=8]),
     ("check_image", &[0..=8]),
     ("write_image", &[0..=1, 3..=3]),
@@ -25,6 +26,16 @@ const ANSWERS: [(&str, &[RangeInclusive<i64>]); 15] = [
     ("write_data", &[-9..=-7, -2..=-2, 0..=0]),
     ("bus_to_cpu", &[-9..=-9, 0..=0]),
     ("cpu_to_bus", &[-9..=-9, 0..=0]),
+    ("get_resource", &[-9..=-7, 0..=0]),
+    ("descriptor_step", &[0..=1]),
+    ("hook_interrupt", &[-9..=-8, -6..=-6, 0..=0]),
+    ("unhook_interrupt", &[-9..=-8, 0..=0]),
+    ("list_chain", &[-8..=-8, -4..=-4, 0..=0]),
+    ("get_card_used", &[-9..=-9, 0..=0]),
+    ("set_card_used", &[-9..=-8, 0..=0]),
+    ("special_cycle", &[-2..=-2]),
+    ("get_routing", &[-2..=-2]),
+    ("set_interrupt", &[-2..=-2]),
 ];
 
 #[derive(Default)]
@@ -35,13 +46,26 @@ pub struct Tally {
 }
 
 impl Tally {
-    /// Counts a call with its answer, with the parts before it and what it left.
-    pub fn count(&mut self, call: &Call, answer: &Answer, before: &Parts, after: &Second) {
+    /// Counts a call with its answer, with the parts and the history before it and what it
+    /// left.
+    pub fn count(
+        &mut self,
+        call: &Call,
+        answer: &Answer,
+        before: &Parts,
+        after: &Second,
+        history: &History,
+    ) {
         self.calls += 1;
         *self.answers.entry((call.name(), answer.number)).or_default() += 1;
         let met = met::met(call, answer, before, &after.parts);
         let data_met = data_met::met(call, answer, before, &after.cells);
-        for (what, met) in met.into_iter().chain(data_met) {
+        let resource_met = resource_met::met(call, answer, before);
+        let chain_met = match call {
+            Call::Chain(call) => chain_met::met(*call, answer, before, &after.parts, history),
+            _ => Vec::new(),
+        };
+        for (what, met) in [met, data_met, resource_met, chain_met].into_iter().flatten() {
             *self.met.entry(what).or_default() += u64::from(met);
         }
     }
@@ -56,7 +80,8 @@ impl Tally {
                 }
             }
         }
-        for what in met::ALL.into_iter().chain(data_met::all()) {
+        let all = met::ALL.into_iter().chain(data_met::all());
+        for what in all.chain(resource_met::ALL).chain(chain_met::all()) {
             if self.met.get(what).is_none_or(|&times| times == 0) {
                 missing.push(what.to_string());
             }

@@ -21,7 +21,7 @@ pub struct Board {
     pub list: [KeptWindow; WINDOWS],
     /// Where the cells of each base register begin; the total comes last.
     pub cell_offsets: [u32; WINDOWS + 1],
-    /// Line by line, hooking order within a line; a zero handle ends it.
+    /// Line by line, hooking order within a line; an entry with handle 0 is no hook.
     pub hooks: [Hook; FUNCTIONS],
     pub used: [Used; FUNCTIONS],
 }

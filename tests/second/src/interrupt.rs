@@ -1,4 +1,8 @@
 //! Interrupt chains: hooking, unhooking and listing.
+//!
+//! An entry with handle 0 is no hook, wherever it stands, and the entries after it count;
+//! the last entry alone says whether there is room: settled in docs/DECISIONS.md. Calls
+//! leave no such entry before a hook, so only on an altered array does it show.
 
 use crate::board::{Board, FUNCTIONS};
 use crate::number::{BAD_HANDLE, DEVICE_NOT_FOUND, GENERAL_ERROR, SET_FAILED, SUCCESSFUL};
@@ -24,17 +28,14 @@ impl Board {
         if self.records[place][PIN] == 0 || line > LAST_LINE {
             return GENERAL_ERROR;
         }
-        let hooks = self.kept_hooks();
-        let hooked = hooks.len();
-        if hooked == FUNCTIONS || hooks.iter().any(|hook| hook.handle == handle) {
+        if self.hooked_at(handle).is_some() || self.hooks[FUNCTIONS - 1].handle != 0 {
             return SET_FAILED;
         }
         // After all hooks of this line and of the lines before it.
-        let before = hooks.iter().rposition(|h| self.line_of(h.handle) <= line);
-        let at = before.map_or(0, |place| place + 1);
-        self.hooks.copy_within(at..hooked, at + 1);
+        let up_to_line = |hook: &Hook| hook.handle != 0 && self.line_of(hook.handle) <= line;
+        let at = self.hooks.iter().rposition(up_to_line).map_or(0, |place| place + 1);
+        self.hooks.copy_within(at..FUNCTIONS - 1, at + 1);
         self.hooks[at] = Hook { handle, handler, parameter };
-        self.hooks[hooked + 1..].fill(Hook::default());
         SUCCESSFUL
     }
 
@@ -43,13 +44,11 @@ impl Board {
         if self.place(handle).is_none() {
             return BAD_HANDLE;
         }
-        let hooks = self.kept_hooks();
-        let hooked = hooks.len();
-        let Some(at) = hooks.iter().position(|hook| hook.handle == handle) else {
+        let Some(at) = self.hooked_at(handle) else {
             return GENERAL_ERROR;
         };
-        self.hooks.copy_within(at + 1..hooked, at);
-        self.hooks[hooked - 1..].fill(Hook::default());
+        self.hooks.copy_within(at + 1.., at);
+        self.hooks[FUNCTIONS - 1] = Hook::default();
         SUCCESSFUL
     }
 
@@ -58,7 +57,7 @@ impl Board {
         if line > u32::from(LAST_LINE) {
             return (GENERAL_ERROR, 0, 0, 0);
         }
-        let hooks = self.kept_hooks().iter();
+        let hooks = self.hooks.iter().filter(|hook| hook.handle != 0);
         let mut chain = hooks.filter(|hook| u32::from(self.line_of(hook.handle)) == line);
         match chain.nth(place as usize) {
             Some(hook) => (SUCCESSFUL, hook.handle, hook.handler, hook.parameter),
@@ -66,10 +65,9 @@ impl Board {
         }
     }
 
-    /// The hooks up to the first zero handle.
-    fn kept_hooks(&self) -> &[Hook] {
-        let end = self.hooks.iter().position(|hook| hook.handle == 0);
-        &self.hooks[..end.unwrap_or(FUNCTIONS)]
+    /// The place of a good handle's hook.
+    fn hooked_at(&self, handle: u32) -> Option<usize> {
+        self.hooks.iter().position(|hook| hook.handle == handle)
     }
 
     /// The line in the loaded register 3Ch; later writes do not reroute.

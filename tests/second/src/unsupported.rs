@@ -4,7 +4,7 @@ use crate::board::Board;
 use crate::number::FUNC_NOT_SUPPORTED;
 
 impl Board {
-    pub fn special_cycle(&self, _bus: u8, _data: u32) -> i32 {
+    pub fn special_cycle(&self, _bus: u8, _message: u32) -> i32 {
         FUNC_NOT_SUPPORTED
     }
 
@@ -12,7 +12,7 @@ impl Board {
         FUNC_NOT_SUPPORTED
     }
 
-    pub fn set_interrupt(&self, _handle: u32) -> i32 {
+    pub fn set_interrupt(&self, _handle: u32, _mode: u32) -> i32 {
         FUNC_NOT_SUPPORTED
     }
 }

@@ -75,10 +75,26 @@ fn altered_hooks() {
     board.hooks = [Hook { handle: 9, handler: 1, parameter: 1 }; 16];
     assert_eq!(board.hook_interrupt(1, 1, 1), -6);
     assert_eq!(board.unhook_interrupt(1), -8);
+    // An entry with handle 0 is no hook, but the array is full by its last entry.
     board.hooks[1].handle = 0;
-    assert_eq!(board.hook_interrupt(1, 1, 1), 0);
-    assert_eq!(board.list_chain(5, 0), (0, 1, 1, 1));
-    assert_eq!(board.hooks[2], Hook::default());
+    assert_eq!(board.hook_interrupt(1, 1, 1), -6);
+    assert_eq!(board.list_chain(0, 14), (0, 9, 1, 1));
+    assert_eq!(board.list_chain(0, 15), (-4, 0, 0, 0));
+    // The first of two goes, and what stands after it moves as it is.
+    board.hooks[3] = Hook { handle: 1, handler: 7, parameter: 8 };
+    board.hooks[5] = Hook { handle: 1, handler: 6, parameter: 5 };
+    assert_eq!(board.unhook_interrupt(1), 0);
+    assert_eq!(board.hooks[1], Hook { handle: 0, handler: 1, parameter: 1 });
+    assert_eq!((board.hooks[4].handle, board.hooks[15]), (1, Hook::default()));
+    assert_eq!(board.list_chain(5, 0), (0, 1, 6, 5));
+    // A new hook goes after the last one up to its line, wherever entries with handle 0 are.
+    assert_eq!(board.hook_interrupt(2, 3, 4), 0);
+    assert_eq!(board.hooks[15], Hook { handle: 2, handler: 3, parameter: 4 });
+    assert_eq!(board.unhook_interrupt(2), 0);
+    board.records[8][0x3C] = 6;
+    assert_eq!(board.hook_interrupt(2, 3, 4), 0);
+    assert_eq!(board.hooks[5], Hook { handle: 2, handler: 3, parameter: 4 });
+    assert_eq!((board.hooks[6].handle, board.hooks[15].handle), (9, 9));
 }
 
 fn any_board(numbers: &mut Numbers) -> Board {

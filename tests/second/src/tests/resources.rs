@@ -109,6 +109,6 @@ fn never_supported() {
     for board in [board, Board::new()] {
         assert_eq!(board.special_cycle(0, 0), -2);
         assert_eq!(board.get_routing(1), -2);
-        assert_eq!(board.set_interrupt(99), -2);
+        assert_eq!(board.set_interrupt(99, 0), -2);
     }
 }

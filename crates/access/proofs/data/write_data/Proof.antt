@@ -1,6 +1,5 @@
--- `write_data`: the place decides, and leaves room for the cells.
+-- `write_data`: the place decides.
 use mathlib.Core.Path.{sym, _∙_}
-use Rattle.access.proofs.Places.{place-room}
 use borrow.Author.Needs.{needs}
 use Rattle.access.proofs.data.write_data.Statement.{statement}
 use Rattle.access.proofs.data.write_data.Tie as tie
@@ -14,8 +13,8 @@ enum-known-at c = search needs
 ordered-requires : tie.Need-ordered-requires
 ordered-requires c κs = search needs
 
-store-requires : tie.Need-store-requires
-store-requires c κs = place-room _ _ _ _ _ _ _ (sym (c .before .before .before .before .before .data-place .ensures) ∙ c .before .before .before .at .given .1)
+put-big-requires : tie.Need-put-big-requires
+put-big-requires c κs = search needs
 
 enum-known-status : tie.Need-enum-known-status
 enum-known-status c = search needs
@@ -24,7 +23,7 @@ same-length : tie.Need-same-length
 same-length c = search needs
 
 returns : tie.Need-returns
-returns c = rw (c .before .before .store .ensures, c .before .before .before .ordered .ensures, sym (c .before .before .before .before .before .before .before .before .data-place .ensures) ∙ c .before .before .before .before .before .before .at .given .1)
+returns c = rw (c .before .before .put-big .ensures, c .before .before .before .ordered .ensures, sym (c .before .before .before .before .before .before .before .before .data-place .ensures) ∙ c .before .before .before .before .before .before .at .given .1)
 
 returns-2 : tie.Need-returns-2
 returns-2 c = rw (sym (c .before .before .before .data-place .ensures) ∙ c .before .status .given .1)
@@ -36,7 +35,7 @@ write-data-spec =
     data-place-requires
     enum-known-at
     ordered-requires
-    store-requires
+    put-big-requires
     enum-known-status
     same-length
     returns

@@ -3,9 +3,10 @@ use mathlib.Core.Path.{refl, sym}
 use denote.Ref.{now}
 use Rattle.window_list.specs.Listing.{numberOf, valuesOf}
 use Rattle.config.proofs.Searches.{search-number}
-use Rattle.reference.specs.Answers.{answer, ofSearch, ofRead, ofFastRead, ofToCpu, ofToBus}
+use Rattle.interrupt.specs.Listing.{chainNumberOf, chainValuesOf}
+use Rattle.reference.specs.Answers.{answer, ofStatus, ofSearch, ofRead, ofFastRead, ofToCpu, ofToBus, ofChain, ofUsed}
 use Rattle.reference.specs.State.{step}
-use Rattle.dispatch.proofs.Arms.{arm-told, arm-load, arm-reset, arm-write, arm-write-config, arm-write-data}
+use Rattle.dispatch.proofs.Arms.{arm-told, arm-load, arm-reset, arm-write, arm-write-config, arm-write-data, arm-resource, arm-hooks, arm-set-used}
 use borrow.Author.Needs.{needs}
 use Rattle.dispatch.proofs.perform.perform.Statement.{statement}
 use Rattle.dispatch.proofs.perform.perform.Tie as tie
@@ -124,6 +125,87 @@ of-to-bus-requires c κs = search needs
 enum-known-call-11 : tie.Need-enum-known-call-11
 enum-known-call-11 c = search needs
 
+get-resource-requires : tie.Need-get-resource-requires
+get-resource-requires c κs = search needs
+
+of-status-requires-4 : tie.Need-of-status-requires-4
+of-status-requires-4 c κs = search needs
+
+enum-known-call-12 : tie.Need-enum-known-call-12
+enum-known-call-12 c = search needs
+
+hook-interrupt-requires : tie.Need-hook-interrupt-requires
+hook-interrupt-requires c κs = search needs
+
+of-status-requires-5 : tie.Need-of-status-requires-5
+of-status-requires-5 c κs = search needs
+
+enum-known-call-13 : tie.Need-enum-known-call-13
+enum-known-call-13 c = search needs
+
+unhook-interrupt-requires : tie.Need-unhook-interrupt-requires
+unhook-interrupt-requires c κs = search needs
+
+of-status-requires-6 : tie.Need-of-status-requires-6
+of-status-requires-6 c κs = search needs
+
+enum-known-call-14 : tie.Need-enum-known-call-14
+enum-known-call-14 c = search needs
+
+list-chain-requires : tie.Need-list-chain-requires
+list-chain-requires c κs = search needs
+
+of-chain-requires : tie.Need-of-chain-requires
+of-chain-requires c κs = search needs
+
+enum-known-call-15 : tie.Need-enum-known-call-15
+enum-known-call-15 c = search needs
+
+get-card-used-requires : tie.Need-get-card-used-requires
+get-card-used-requires c κs = search needs
+
+of-used-requires : tie.Need-of-used-requires
+of-used-requires c κs = search needs
+
+enum-known-call-16 : tie.Need-enum-known-call-16
+enum-known-call-16 c = search needs
+
+set-card-used-requires : tie.Need-set-card-used-requires
+set-card-used-requires c κs = search needs
+
+of-status-requires-7 : tie.Need-of-status-requires-7
+of-status-requires-7 c κs = search needs
+
+enum-known-call-17 : tie.Need-enum-known-call-17
+enum-known-call-17 c = search needs
+
+special-cycle-requires : tie.Need-special-cycle-requires
+special-cycle-requires c κs = search needs
+
+of-status-requires-8 : tie.Need-of-status-requires-8
+of-status-requires-8 c κs = search needs
+
+enum-known-call-18 : tie.Need-enum-known-call-18
+enum-known-call-18 c = search needs
+
+get-routing-requires : tie.Need-get-routing-requires
+get-routing-requires c κs = search needs
+
+of-status-requires-9 : tie.Need-of-status-requires-9
+of-status-requires-9 c κs = search needs
+
+enum-known-call-19 : tie.Need-enum-known-call-19
+enum-known-call-19 c = search needs
+
+set-interrupt-requires : tie.Need-set-interrupt-requires
+set-interrupt-requires c κs = search needs
+
+of-status-requires-10 : tie.Need-of-status-requires-10
+of-status-requires-10 c κs = search needs
+
+enum-known-call-20 : tie.Need-enum-known-call-20
+enum-known-call-20 c = search needs
+
 list-window-requires : tie.Need-list-window-requires
 list-window-requires c κs = search needs
 
@@ -198,9 +280,46 @@ returns-13 : tie.Need-returns-13
 unfolding step
 returns-13 c = arm-told ofToBus _ _ _ _ _ _ _ (c .before .before .before .before .before .call10 .given .1) (c .of-to-bus .ensures) (c .before .cpu-to-bus .ensures) refl
 
+same-length-8 : tie.Need-same-length-8
+same-length-8 c = search needs
+
 returns-14 : tie.Need-returns-14
+returns-14 c = arm-resource _ _ _ _ _ _ _ (c .before .before .before .before .before .before .before .before .before .before .call11 .given .1) (c .of-status4 .ensures) (c .before .before .before .get-resource .ensures)
+
+returns-15 : tie.Need-returns-15
 unfolding step
-returns-14 c = arm-told (λ l. answer (numberOf l) (valuesOf l)) _ _ _ _ _ _ _ (c .before .before .before .before .call11 .given .1) (c .of-listing .ensures) (c .before .list-window .ensures .answer) refl
+returns-15 c = arm-hooks _ _ _ _ _ _ _ _ (c .before .before .before .before .before .before .call12 .given .1) (c .of-status5 .ensures) (c .before .hook-interrupt .ensures) refl
+
+returns-16 : tie.Need-returns-16
+unfolding step
+returns-16 c = arm-hooks _ _ _ _ _ _ _ _ (c .before .before .before .before .before .call13 .given .1) (c .of-status6 .ensures) (c .before .unhook-interrupt .ensures) refl
+
+returns-17 : tie.Need-returns-17
+unfolding step
+returns-17 c = arm-told (λ l. ofChain (chainNumberOf l) (chainValuesOf l)) _ _ _ _ _ _ _ (c .before .before .before .before .before .call14 .given .1) (c .of-chain .ensures) (c .before .list-chain .ensures .answer) refl
+
+returns-18 : tie.Need-returns-18
+unfolding step
+returns-18 c = arm-told ofUsed _ _ _ _ _ _ _ (c .before .before .before .before .before .call15 .given .1) (c .of-used .ensures) (c .before .get-card-used .ensures) refl
+
+returns-19 : tie.Need-returns-19
+returns-19 c = arm-set-used _ _ _ _ _ _ _ _ _ (c .before .before .before .before .before .call16 .given .1) (c .of-status7 .ensures) (c .before .set-card-used .ensures)
+
+returns-20 : tie.Need-returns-20
+unfolding step
+returns-20 c = arm-told ofStatus _ _ _ _ _ _ _ (c .before .before .before .call17 .given .1) (c .of-status8 .ensures) (c .before .special-cycle .ensures) refl
+
+returns-21 : tie.Need-returns-21
+unfolding step
+returns-21 c = arm-told ofStatus _ _ _ _ _ _ _ (c .before .before .before .call18 .given .1) (c .of-status9 .ensures) (c .before .get-routing .ensures) refl
+
+returns-22 : tie.Need-returns-22
+unfolding step
+returns-22 c = arm-told ofStatus _ _ _ _ _ _ _ (c .before .before .before .call19 .given .1) (c .of-status10 .ensures) (c .before .set-interrupt .ensures) refl
+
+returns-23 : tie.Need-returns-23
+unfolding step
+returns-23 c = arm-told (λ l. answer (numberOf l) (valuesOf l)) _ _ _ _ _ _ _ (c .before .before .before .before .call20 .given .1) (c .of-listing .ensures) (c .before .list-window .ensures .answer) refl
 
 pub perform-spec : {M : Type 1} → statement M
 perform-spec =
@@ -244,6 +363,33 @@ perform-spec =
     cpu-to-bus-requires
     of-to-bus-requires
     enum-known-call-11
+    get-resource-requires
+    of-status-requires-4
+    enum-known-call-12
+    hook-interrupt-requires
+    of-status-requires-5
+    enum-known-call-13
+    unhook-interrupt-requires
+    of-status-requires-6
+    enum-known-call-14
+    list-chain-requires
+    of-chain-requires
+    enum-known-call-15
+    get-card-used-requires
+    of-used-requires
+    enum-known-call-16
+    set-card-used-requires
+    of-status-requires-7
+    enum-known-call-17
+    special-cycle-requires
+    of-status-requires-8
+    enum-known-call-18
+    get-routing-requires
+    of-status-requires-9
+    enum-known-call-19
+    set-interrupt-requires
+    of-status-requires-10
+    enum-known-call-20
     list-window-requires
     of-listing-requires
     same-length
@@ -266,4 +412,14 @@ perform-spec =
     returns-11
     returns-12
     returns-13
-    returns-14)
+    same-length-8
+    returns-14
+    returns-15
+    returns-16
+    returns-17
+    returns-18
+    returns-19
+    returns-20
+    returns-21
+    returns-22
+    returns-23)

@@ -1,0 +1,112 @@
+// Hooks, chains and used marks for C, and the calls that always give -2.
+use board::layout::Header;
+use board::layout::Hooks;
+use board::layout::Records;
+use board::layout::Used;
+use dispatch::answer::of_chain;
+use interrupt::chain::hook_interrupt;
+use interrupt::chain::unhook_interrupt;
+use interrupt::listing::list_chain;
+use interrupt::unsupported::get_routing;
+use interrupt::unsupported::set_interrupt;
+use interrupt::unsupported::special_cycle;
+use interrupt::used::get_card_used;
+use interrupt::used::set_card_used;
+use reference::Values;
+ghost use mathlib.Core.Path.{_≡_};
+ghost use Rattle.interrupt.specs.Hooks.{chainOf};
+ghost use Rattle.interrupt.specs.Chain.{changed, hookInterrupt, unhookInterrupt};
+ghost use Rattle.interrupt.specs.Used.{marked, getCardUsed, setCardUsed};
+ghost use Rattle.interrupt.specs.Unsupported.{specialCycle, getRouting, setInterrupt};
+ghost use Rattle.bios.specs.Exports.{status, shown, shownHook, cardUsed};
+
+// Puts a handler and its parameter last on the chain of a function's line.
+#[no_mangle]
+pub extern "C" fn bios_hook_interrupt(
+    header: &Header,
+    records: &Records,
+    hooks: &mut Hooks,
+    handle: u32,
+    handler: u32,
+    parameter: u32,
+) -> i32
+    ensures { λ r. ⌜ changed (status r) (now (hooks .exit)) ≡ hookInterrupt (now (header .entry)) (now (records .entry)) (now (hooks .entry)) handle handler parameter ⌝ }
+{
+    hook_interrupt(header, records, hooks, handle, handler, parameter).number()
+}
+
+// Takes a function's hook from its chain.
+#[no_mangle]
+pub extern "C" fn bios_unhook_interrupt(header: &Header, hooks: &mut Hooks, handle: u32) -> i32
+    ensures { λ r. ⌜ changed (status r) (now (hooks .exit)) ≡ unhookInterrupt (now (header .entry)) (now (hooks .entry)) handle ⌝ }
+{
+    unhook_interrupt(header, hooks, handle).number()
+}
+
+// The hook at a place of a line's chain, or a number; handle, handler and parameter go to the first three of `values`, zeros to the rest.
+#[no_mangle]
+pub extern "C" fn bios_list_chain(
+    records: &Records,
+    hooks: &Hooks,
+    line: u32,
+    place: u32,
+    values: &mut Values,
+) -> i32
+    ensures { λ r. ⌜ shown r (now (values .exit)) ≡ shownHook (chainOf (now (records .entry)) (now (hooks .entry)) line) line place ⌝ }
+{
+    let a = of_chain(list_chain(records, hooks, line, place));
+    let v = a.values;
+    *values = v;
+    a.number
+}
+
+// The used status and call-back address of a function; zeros where it is refused.
+#[no_mangle]
+pub extern "C" fn bios_get_card_used(
+    header: &Header,
+    used: &Used,
+    handle: u32,
+    mark: &mut u32,
+    call_back: &mut u32,
+) -> i32
+    ensures { λ r. ⌜ cardUsed r (now (mark .exit)) (now («call_back» .exit)) ≡ getCardUsed (now (header .entry)) (now (used .entry)) handle ⌝ }
+{
+    let u = get_card_used(header, used, handle);
+    *mark = u.used;
+    *call_back = u.call_back;
+    u.status.number()
+}
+
+#[no_mangle]
+pub extern "C" fn bios_set_card_used(
+    header: &Header,
+    used: &mut Used,
+    handle: u32,
+    mark: u32,
+    call_back: u32,
+) -> i32
+    ensures { λ r. ⌜ marked (status r) (now (used .exit)) ≡ setCardUsed (now (header .entry)) (now (used .entry)) handle mark «call_back» ⌝ }
+{
+    set_card_used(header, used, handle, mark, call_back).number()
+}
+
+#[no_mangle]
+pub extern "C" fn bios_special_cycle(bus: u8, message: u32) -> i32
+    ensures { λ r. ⌜ status r ≡ specialCycle bus message ⌝ }
+{
+    special_cycle(bus, message).number()
+}
+
+#[no_mangle]
+pub extern "C" fn bios_get_routing(handle: u32) -> i32
+    ensures { λ r. ⌜ status r ≡ getRouting handle ⌝ }
+{
+    get_routing(handle).number()
+}
+
+#[no_mangle]
+pub extern "C" fn bios_set_interrupt(handle: u32, mode: u32) -> i32
+    ensures { λ r. ⌜ status r ≡ setInterrupt handle mode ⌝ }
+{
+    set_interrupt(handle, mode).number()
+}

@@ -1,0 +1,11 @@
+-- The laws that proofs here and above cite.
+pub mod Entries
+pub mod Places
+pub mod Listings
+pub mod Moves
+pub mod Hooking
+pub mod Unhooking
+pub mod Packed
+pub mod Repacked
+pub mod Room
+pub mod Marks

@@ -1,0 +1,76 @@
+-- Hooks, the array that holds them, and the chain of a line: document 01, "The modelled board" and "Chains and marks".
+use Prim.Native.Nat.{ℕ, zero, suc, _+_, _*_, _-_, _/_, _%_}
+use mathlib.Core.Bool.{Bool, cond, _&&_, not}
+use mathlib.Core.List.{List, [], _∷_}
+use lib.Dec.{eqb}
+use lib.ListN.{getD}
+use Rattle.board.specs.Layout.{functionsMax, hookSize, recordByte}
+use Rattle.board.specs.Tables.{table, filledUp}
+
+pub record Hook : Type 0 where
+  pub handle : ℕ
+  pub handler : ℕ
+  pub parameter : ℕ
+
+abbrev pub hook : ℕ → ℕ → ℕ → Hook
+hook handle handler parameter = record { handle = handle; handler = handler; parameter = parameter }
+
+-- what stands at a place with no hook
+abbrev pub noHook : Hook
+noHook = hook 0 0 0
+
+abbrev pub isHook : Hook → Bool
+isHook h = not (eqb (h .handle) 0)
+
+-- entry e of the array
+abbrev pub hookAt : List ℕ → ℕ → Hook
+hookAt hooks e = hook (getD hooks (hookSize * e) 0) (getD hooks (hookSize * e + 1) 0) (getD hooks (hookSize * e + 2) 0)
+
+-- n entries from i on
+unfoldable pub entriesFrom : ℕ → ℕ → (ℕ → Hook) → List Hook
+entriesFrom i zero f = []
+entriesFrom i (suc n) f = f i ∷ entriesFrom (i + 1) n f
+
+-- all entries
+abbrev pub entries : List ℕ → List Hook
+entries hooks = entriesFrom 0 functionsMax (hookAt hooks)
+
+-- the numbers of a hook by their place; number j of an array with these entries; the array
+abbrev pub numberOf : Hook → ℕ → ℕ
+numberOf h k = cond (eqb k 0) (h .handle) (cond (eqb k 1) (h .handler) (h .parameter))
+
+abbrev pub numberAt : (ℕ → Hook) → ℕ → ℕ
+numberAt f j = numberOf (f (j / hookSize)) (j % hookSize)
+
+abbrev pub arrayOf : (ℕ → Hook) → List ℕ
+arrayOf f = table (functionsMax * hookSize) (numberAt f)
+
+-- the line and the pin of a function are the loaded ones: later writes do not reroute
+abbrev pub lineOf : List ℕ → ℕ → ℕ
+lineOf records handle = recordByte records (handle - 1) 0x3C
+
+abbrev pub pinOf : List ℕ → ℕ → ℕ
+pinOf records handle = recordByte records (handle - 1) 0x3D
+
+abbrev pub lastLine : ℕ
+lastLine = 15
+
+-- those hooks of a list that pass a test, in their order
+unfoldable pub chosen : (Hook → Bool) → List Hook → List Hook
+chosen t [] = []
+chosen t (h ∷ hs) = cond (t h) (h ∷ chosen t hs) (chosen t hs)
+
+-- the chain of a line: its hooks, in the array's order
+abbrev pub onLine : List ℕ → ℕ → Hook → Bool
+onLine records line h = isHook h && eqb (lineOf records (h .handle)) line
+
+abbrev pub chainOf : List ℕ → List ℕ → ℕ → List Hook
+chainOf records hooks line = chosen (onLine records line) (entries hooks)
+
+-- the array that holds hooks one after the other: three numbers each, zeros after the last
+unfoldable pub numbers : List Hook → List ℕ
+numbers [] = []
+numbers (h ∷ hs) = h .handle ∷ h .handler ∷ h .parameter ∷ numbers hs
+
+abbrev pub packed : List Hook → List ℕ
+packed hs = filledUp (functionsMax * hookSize) (numbers hs)

@@ -1,0 +1,8 @@
+-- The definitions that contracts cite, and the statements about them.
+pub mod Hooks
+pub mod Chain
+pub mod Listing
+pub mod Used
+pub mod Unsupported
+pub mod Steps
+pub mod Meaning

@@ -1,0 +1,102 @@
+-- The simulation of hooks and chains.
+use Prim.Native.Nat.{ℕ, _-_}
+use native.Mathlib.Omega.{arith}
+use mathlib.Core.List.{List, [], _∷_, _++_}
+use mathlib.Core.Path.{_≡_, refl, _∙_, ap}
+use lib.Dec.{leb, ltb}
+use borrow.Author.Tests.{leb-true, ltb-false, not-true}
+use Rattle.board.specs.Parts.{withHooks}
+use Rattle.board.proofs.Tests.{both-true}
+use Rattle.interrupt.specs.Hooks.{Hook, hook, lineOf, pinOf, lastLine, chainOf, packed}
+use Rattle.interrupt.specs.Chain.{isRouted, Changed}
+use Rattle.interrupt.specs.Listing.{listed, chainListing, chainNumberOf, chainValuesOf}
+use Rattle.interrupt.specs.Meaning.{without}
+use Rattle.interrupt.specs.declared.listing.ChainListing.{ChainListing}
+use Rattle.interrupt.proofs.Listings.{chain-number, chain-values}
+use Rattle.interrupt.proofs.Room.{without-once}
+use Rattle.load.specs.Load.{padded}
+use Rattle.reference.specs.declared.Answer.{Answer}
+use Rattle.reference.specs.declared.Call.the-variants.{HookInterrupt, UnhookInterrupt, ListChain}
+use Rattle.reference.specs.Answers.{ofStatus, ofChain}
+use Rattle.reference.specs.State.{next, step}
+use Rattle.reference.specs.Reference.{Reference, Told, told, joined, lineFor, pinFor, withChainOf, referenceStep}
+use Rattle.reference.specs.Run.{partsOf}
+use Rattle.reference.proofs.Tests.{ifBoth, ifAlike}
+use Rattle.reference.proofs.Registers.{kept-byte}
+use Rattle.reference.proofs.Among.{every-without, packed-without}
+use Rattle.reference.proofs.Lines.{allLines}
+use Rattle.reference.proofs.Chained.{On, Chained, among-lines, without-lines, chained-changed, chained-hook}
+use Rattle.reference.proofs.Sound.{Sound, Same, Simulated, as-told, answered, handle-same, handle-within}
+use Rattle.reference.proofs.HookArray.{line-kept, few, hooked-same, room, free-same, hook-lines, chain-same}
+
+module _ (b : Reference) (s : Sound b) where
+  abbrev rs : List (List ℕ)
+  rs = b .records
+
+  abbrev records : List ℕ
+  records = padded (joined (b .records))
+
+  abbrev chains : ℕ → List Hook
+  chains = b .chains
+
+  -- another chain on a line, and the array that holds it
+  chain-told : {a : Answer} {own hooks : List ℕ} (line : ℕ) (chain : List Hook) → hooks ≡ packed (allLines (withChainOf line chain b .chains))
+      → Chained rs (withChainOf line chain b .chains) → Same (next a (withHooks hooks (partsOf b)) own) (told a (withChainOf line chain b) own)
+  unfolding partsOf
+  chain-told line chain e k =
+      record {
+        answer = refl;
+        parts = ap (λ (l : List ℕ). withHooks l (partsOf b)) e;
+        own = refl;
+        sound = record { few = s .few; sized = s .sized; fits = s .fits; chained = k };
+      }
+
+  -- what a call that changes the hooks leaves, beside what the reference machine says
+  abbrev Changes : List ℕ → Changed → Told → Type 0
+  Changes own w t = Same (next (ofStatus (w .status)) (withHooks (w .hooks) (partsOf b)) own) t
+
+  pub same-hook : (handle handler parameter : ℕ) (own : List ℕ) → Simulated b (HookInterrupt handle handler parameter) own
+  unfolding step referenceStep partsOf
+  same-hook handle handler parameter own =
+      let line = lineFor b handle in
+      let pin-kept : pinOf records handle ≡ pinFor b handle = kept-byte rs (s .sized) (handle - 1) 0x3D (omega arith) in
+      let routed-same : isRouted (pinOf records handle) (lineOf records handle) ≡ isRouted (pinFor b handle) line =
+      rw (pin-kept, line-kept b s handle) in
+      ifAlike (Changes own) (handle-same b s handle)
+      (λ g.
+      let k = handle-within b handle g in
+      ifAlike (Changes own) routed-same
+      (λ r.
+      let last = leb-true line lastLine (both-true (leb 1 (pinFor b handle)) (leb line lastLine) r .1) in
+      ifAlike (Changes own) (free-same b s handle (k .0) (k .1))
+      (λ f.
+      let e = not-true _ f in
+      chain-told line (chains line ++ hook handle handler parameter ∷ []) (hook-lines b s handle handler parameter last (room b s handle (k .0) (k .1) e))
+      (chained-hook rs chains (s .chained) handle handler parameter (k .0) (k .1) last e))
+      (λ f. as-told b s))
+      (λ r. as-told b s))
+      (λ g. as-told b s)
+
+  pub same-unhook : (handle : ℕ) (own : List ℕ) → Simulated b (UnhookInterrupt handle) own
+  unfolding step referenceStep partsOf
+  same-unhook handle own =
+      let line = lineFor b handle in
+      ifAlike (Changes own) (handle-same b s handle)
+      (λ g.
+      ifAlike (Changes own) (hooked-same b s handle (handle-within b handle g .0))
+      (λ e.
+      chain-told line (without handle (chains line))
+      (packed-without handle (allLines chains) (few b s) (among-lines rs chains (s .chained) handle ∙ e) ∙ ap packed (without-lines rs chains (s .chained) handle e))
+      (chained-changed rs chains (s .chained) line (without handle (chains line)) (every-without (On rs line) handle (chains line) (s .chained .each line))
+      (without-once handle (chains line) (s .chained .once line))))
+      (λ e. as-told b s))
+      (λ g. as-told b s)
+
+  pub same-list-chain : (line place : ℕ) (own : List ℕ) → Simulated b (ListChain line place) own
+  unfolding step referenceStep partsOf
+  same-list-chain line place own =
+      let given : chainListing (chainOf records (packed (allLines chains)) line) line place ≡ chainListing (chains line) line place =
+      ifBoth (λ (x y : ChainListing). x ≡ y) (ltb lastLine line) (λ e. refl) (λ e. ap (λ (c : List Hook). listed c place) (chain-same b s line (ltb-false lastLine line e))) in
+      answered b s
+      (ap (λ (l : ChainListing). ofChain (chainNumberOf l) (chainValuesOf l)) given
+      ∙ rw (chain-number (chains line) line place, chain-values (chains line) line place))

@@ -1,0 +1,109 @@
+-- Claim 1 for resource, hooks, chains and used marks.
+use Prim.Native.Nat.{ℕ, zero, suc, _-_, _*_}
+use mathlib.Core.Bool.{true, false, false≢true}
+use mathlib.Core.Logic.{inl, inr}
+use mathlib.Core.Path.{_≡_, refl}
+use mathlib.Core.List.{List, [], _∷_}
+use lib.Dec.{eqb, leb, ltb}
+use lib.ListN.{length}
+use Rattle.board.specs.Parts.{Parts, withHooks, withUsed}
+use Rattle.board.specs.Handles.{isHandle}
+use Rattle.resource.specs.Descriptor.{size}
+use Rattle.resource.specs.Resource.{Gave, windowBases, resource, sourceOf}
+use Rattle.interrupt.specs.Hooks.{Hook, lineOf, pinOf, lastLine, chainOf}
+use Rattle.interrupt.specs.Chain.{Changed, isRouted, isHooked, isFree}
+use Rattle.interrupt.specs.Listing.{listed, chainNumberOf, chainValuesOf}
+use Rattle.interrupt.specs.Used.{Marked}
+use Rattle.interrupt.specs.declared.listing.ChainListing.{ChainListing}
+use Rattle.interrupt.specs.declared.used.CardUsed.{CardUsed}
+use Rattle.reference.specs.declared.Answer.{Answer}
+use Rattle.reference.specs.declared.Call.{Call}
+use Rattle.reference.specs.declared.Call.the-variants.{GetResource, HookInterrupt, UnhookInterrupt, ListChain, GetCardUsed, SetCardUsed}
+use Rattle.reference.specs.Answers.{ofStatus, ofChain, ofUsed}
+use Rattle.reference.specs.State.{Next, next, step}
+use Rattle.reference.specs.Claims.{Among, refusals, Filler, Untouched}
+use Rattle.reference.proofs.Tests.{ifTest}
+
+-- what the claim says of one outcome
+abbrev pub Kept : Parts → Call → List ℕ → Next → Type 0
+Kept p c own n = n .answer .refused ≡ true → Untouched p c own n
+
+-- an accepted call is not refused
+pub not-refused : {A : Type 0} → false ≡ true → A
+not-refused e = absurd (false≢true e)
+
+-- a refused call gives a stated number and the filler, and leaves the parts and its own buffer
+pub untouched : {p : Parts} {c : Call} {own : List ℕ} {a : Answer} → Among (a .number) (refusals c) → Filler c a → Untouched p c own (next a p own)
+untouched n f = record { number = n; filler = f; parts = refl; own = refl }
+
+module _ (p : Parts) (own : List ℕ) where
+  pub kept-resource : (handle : ℕ) → Kept p (GetResource handle) own (step p (GetResource handle) own)
+  unfolding step resource
+  kept-resource handle =
+      let P : Gave → Type 0 = λ g. Kept p (GetResource handle) own (next (ofStatus (g .status)) p (g .out)) in
+      let n = length (windowBases (sourceOf (p .records) (p .registers) (p .windows) handle .exponent)) in
+      ifTest P (isHandle (p .header) handle)
+      (λ g.
+      ifTest P (eqb n 0) (λ z f. untouched (inr (inl refl)) refl)
+      (λ z.
+      ifTest P (ltb (length own) (size * n)) (λ t f. untouched (inr (inr (inl refl))) refl)
+      (λ t f. not-refused f)))
+      (λ g f. untouched (inl refl) refl)
+
+  pub kept-hook : (handle handler parameter : ℕ)
+      → Kept p (HookInterrupt handle handler parameter) own (step p (HookInterrupt handle handler parameter) own)
+  unfolding step
+  kept-hook handle handler parameter =
+      let P : Changed → Type 0 =
+      λ w. Kept p (HookInterrupt handle handler parameter) own (next (ofStatus (w .status)) (withHooks (w .hooks) p) own) in
+      ifTest P (isHandle (p .header) handle)
+      (λ g.
+      ifTest P (isRouted (pinOf (p .records) handle) (lineOf (p .records) handle))
+      (λ r.
+      ifTest P (isFree (p .hooks) handle) (λ t f. not-refused f)
+      (λ t f. untouched (inr (inr (inl refl))) refl))
+      (λ r f. untouched (inr (inl refl)) refl))
+      (λ g f. untouched (inl refl) refl)
+
+  pub kept-unhook : (handle : ℕ) → Kept p (UnhookInterrupt handle) own (step p (UnhookInterrupt handle) own)
+  unfolding step
+  kept-unhook handle =
+      let P : Changed → Type 0 = λ w. Kept p (UnhookInterrupt handle) own (next (ofStatus (w .status)) (withHooks (w .hooks) p) own) in
+      ifTest P (isHandle (p .header) handle)
+      (λ g.
+      ifTest P (isHooked (p .hooks) handle) (λ t f. not-refused f)
+      (λ t f. untouched (inr (inl refl)) refl))
+      (λ g f. untouched (inl refl) refl)
+
+  -- what a listing of a chain gives
+  abbrev Lists : ℕ → ℕ → ChainListing → Type 0
+  Lists line place l = Kept p (ListChain line place) own (next (ofChain (chainNumberOf l) (chainValuesOf l)) p own)
+
+  listed-kept : (line place : ℕ) (chain : List Hook) (n : ℕ) → Lists line place (listed chain n)
+  unfolding listed
+  listed-kept line place [] n f = untouched (inr (inl refl)) refl
+  listed-kept line place (h ∷ hs) zero f = not-refused f
+  listed-kept line place (h ∷ hs) (suc n) f = listed-kept line place hs n f
+
+  pub kept-chain : (line place : ℕ) → Kept p (ListChain line place) own (step p (ListChain line place) own)
+  unfolding step
+  kept-chain line place =
+      ifTest (Lists line place) (ltb lastLine line) (λ e f. untouched (inl refl) refl)
+      (λ e. listed-kept line place (chainOf (p .records) (p .hooks) line) place)
+
+  pub kept-get-used : (handle : ℕ) → Kept p (GetCardUsed handle) own (step p (GetCardUsed handle) own)
+  unfolding step
+  kept-get-used handle =
+      ifTest (λ (u : CardUsed). Kept p (GetCardUsed handle) own (next (ofUsed u) p own)) (isHandle (p .header) handle) (λ g f. not-refused f)
+      (λ g f. untouched (inl refl) refl)
+
+  pub kept-set-used : (handle status callBack : ℕ)
+      → Kept p (SetCardUsed handle status callBack) own (step p (SetCardUsed handle status callBack) own)
+  unfolding step
+  kept-set-used handle status callBack =
+      let P : Marked → Type 0 = λ w. Kept p (SetCardUsed handle status callBack) own (next (ofStatus (w .status)) (withUsed (w .used) p) own) in
+      ifTest P (isHandle (p .header) handle)
+      (λ g.
+      ifTest P (leb status 3) (λ t f. not-refused f)
+      (λ t f. untouched (inr (inl refl)) refl))
+      (λ g f. untouched (inl refl) refl)

@@ -1,0 +1,151 @@
+-- Claim 3 for calls that touch hooks, used marks, cells, their own buffer, or nothing.
+use Prim.Native.Nat.{ℕ, _+_, _*_, _-_, _/_}
+use native.Mathlib.Omega.{arith}
+use native.Mathlib.Nat.{zero-add}
+use mathlib.Core.Bool.{true, not}
+use mathlib.Core.Logic.{inr}
+use mathlib.Core.Path.{_≡_, refl, sym, _∙_}
+use mathlib.Core.List.{List}
+use lib.Dec.{leb, ltb, eqb}
+use lib.ListN.{length}
+use lib.Seq.{sets, length-sets}
+use borrow.Author.Tests.{ltb-false, ne-eqb, eqb-false}
+use Rattle.board.specs.Layout.{functionsMax, markSize}
+use Rattle.board.proofs.Stores.{sets-other}
+use Rattle.resource.specs.Descriptor.{size, bytesOf}
+use Rattle.resource.specs.Resource.{Gave, windowBases, descriptors, resource}
+use Rattle.resource.proofs.Shows.{described-size}
+use Rattle.interrupt.specs.Hooks.{Hook}
+use Rattle.interrupt.specs.Chain.{isRouted}
+use Rattle.interrupt.specs.Meaning.{isAmong}
+use Rattle.interrupt.specs.Used.{Mark, markNumber}
+use Rattle.reference.specs.declared.Answer.{Answer}
+use Rattle.reference.specs.declared.Call.the-variants.{GetResource, HookInterrupt, UnhookInterrupt, SetCardUsed}
+use Rattle.reference.specs.Answers.{ofStatus}
+use Rattle.reference.specs.State.{next}
+use Rattle.reference.specs.Reference.{Reference, Told, told, isHandleOf, withCellsOf, sourceFor, lineFor, pinFor, withChainOf, withMarkOf, referenceStep}
+use Rattle.reference.specs.Run.{partsOf}
+use Rattle.reference.specs.Claims.{Touch, mayTouch, Alike, Framed}
+use Rattle.reference.proofs.Tests.{ifTest}
+use Rattle.reference.proofs.Alike.{alike, touched, table-alike}
+use Rattle.reference.proofs.Sound.{handle-within}
+
+-- what the claim says of the reference machine's outcome
+abbrev pub Stays : Touch → Reference → List ℕ → Told → Type 0
+Stays t b own r = Framed t (partsOf b) own (next (r .answer) (partsOf (r .reference)) (r .own))
+
+-- a call that leaves the board but for cells that it may touch, and of its own buffer what it may not touch
+pub cells-and-own : (t : Touch) (b : Reference) (cells own out : List ℕ) (a : Answer) → Alike (t .cells) cells (b .cells) → Alike (t .own) out own
+    → Stays t b own (told a (withCellsOf cells b) out)
+unfolding partsOf
+cells-and-own t b cells own out a c k =
+    record {
+      header = λ e. refl;
+      records = λ e. refl;
+      offsets = λ e. refl;
+      registers = alike _ _;
+      list = λ e. refl;
+      hooks = λ e. refl;
+      used = alike _ _;
+      cells = c;
+      own = k;
+    }
+
+pub own-only : (t : Touch) (b : Reference) (own out : List ℕ) (a : Answer) → Alike (t .own) out own → Stays t b own (told a b out)
+own-only t b own out a k = cells-and-own t b (b .cells) own out a (alike (t .cells) (b .cells)) k
+
+pub keeps : (t : Touch) (b : Reference) (own : List ℕ) (a : Answer) → Stays t b own (told a b own)
+keeps t b own a = own-only t b own own a (alike (t .own) own)
+
+-- a call that leaves the board but for a chain
+chain-only : (t : Touch) (b : Reference) (own : List ℕ) (a : Answer) (line : ℕ) (chain : List Hook) → t .hooks ≡ true
+    → Stays t b own (told a (withChainOf line chain b) own)
+unfolding partsOf
+chain-only t b own a line chain h =
+    record {
+      header = λ e. refl;
+      records = λ e. refl;
+      offsets = λ e. refl;
+      registers = alike _ _;
+      list = λ e. refl;
+      hooks = λ e. touched (sym h ∙ e);
+      used = alike _ _;
+      cells = alike _ _;
+      own = alike _ own;
+    }
+
+module _ (b : Reference) (own : List ℕ) where
+  -- descriptors stand at the front of the buffer
+  front : (handle : ℕ) → Alike (λ i. ltb i (size * length (windowBases (sourceFor b handle .exponent)))) (sets own 0 (bytesOf (descriptors (sourceFor b handle)))) own
+  front handle =
+      let v = bytesOf (descriptors (sourceFor b handle)) in
+      record {
+        room = length-sets own 0 v;
+        same = λ i u. sets-other own 0 v i (inr (rw (zero-add (length v), described-size (sourceFor b handle) (windowBases (sourceFor b handle .exponent))) (ltb-false i _ u)));
+      }
+
+  pub stays-resource : (handle : ℕ) → Stays (mayTouch b (GetResource handle) own) b own (referenceStep b (GetResource handle) own)
+  unfolding mayTouch referenceStep resource
+  stays-resource handle =
+      let t = mayTouch b (GetResource handle) own in
+      let P : Gave → Type 0 = λ g. Stays t b own (told (ofStatus (g .status)) b (g .out)) in
+      let n = length (windowBases (sourceFor b handle .exponent)) in
+      ifTest P (isHandleOf b handle)
+      (λ g.
+      ifTest P (eqb n 0) (λ z. keeps t b own _)
+      (λ z. ifTest P (ltb (length own) (size * n)) (λ s. keeps t b own _) (λ s. own-only t b own _ _ (front handle))))
+      (λ g. keeps t b own _)
+
+  pub stays-hook : (handle handler parameter : ℕ)
+      → (let c = HookInterrupt handle handler parameter in Stays (mayTouch b c own) b own (referenceStep b c own))
+  unfolding mayTouch referenceStep
+  stays-hook handle handler parameter =
+      let t = mayTouch b (HookInterrupt handle handler parameter) own in
+      let line = lineFor b handle in
+      ifTest (Stays t b own) (isHandleOf b handle)
+      (λ g.
+      ifTest (Stays t b own) (isRouted (pinFor b handle) line)
+      (λ r. ifTest (Stays t b own) (not (isAmong handle (b .chains line))) (λ f. chain-only t b own _ line _ refl) (λ f. keeps t b own _))
+      (λ r. keeps t b own _))
+      (λ g. keeps t b own _)
+
+  pub stays-unhook : (handle : ℕ) → Stays (mayTouch b (UnhookInterrupt handle) own) b own (referenceStep b (UnhookInterrupt handle) own)
+  unfolding mayTouch referenceStep
+  stays-unhook handle =
+      let t = mayTouch b (UnhookInterrupt handle) own in
+      let line = lineFor b handle in
+      ifTest (Stays t b own) (isHandleOf b handle)
+      (λ g. ifTest (Stays t b own) (isAmong handle (b .chains line)) (λ f. chain-only t b own _ line _ refl) (λ f. keeps t b own _))
+      (λ g. keeps t b own _)
+
+  -- every mark but the handle's
+  mark-only : (handle : ℕ) (m : Mark) → isHandleOf b handle ≡ true
+      → Alike (λ j. eqb (j / markSize + 1) handle) (partsOf (withMarkOf (handle - 1) m b) .used) (partsOf b .used)
+  unfolding partsOf
+  mark-only handle m g =
+      let k = handle-within b handle g .0 in
+      table-alike (λ j. eqb (j / markSize + 1) handle) (functionsMax * markSize) (markNumber (withMarkOf (handle - 1) m b .used)) (markNumber (b .used))
+      (λ j u. let n = eqb-false (j / markSize + 1) handle u in rw (ne-eqb (j / markSize) (handle - 1) (λ z. n (omega arith))))
+
+  pub stays-used : (handle status callBack : ℕ)
+      → (let c = SetCardUsed handle status callBack in Stays (mayTouch b c own) b own (referenceStep b c own))
+  unfolding mayTouch referenceStep partsOf
+  stays-used handle status callBack =
+      let t = mayTouch b (SetCardUsed handle status callBack) own in
+      ifTest (Stays t b own) (isHandleOf b handle)
+      (λ g.
+      ifTest (Stays t b own) (leb status 3)
+      (λ e.
+      record {
+        header = λ u. refl;
+        records = λ u. refl;
+        offsets = λ u. refl;
+        registers = alike _ _;
+        list = λ u. refl;
+        hooks = λ u. refl;
+        used = mark-only handle _ g;
+        cells = alike _ _;
+        own = alike _ own;
+      })
+      (λ e. keeps t b own _))
+      (λ g. keeps t b own _)

@@ -1,0 +1,47 @@
+-- The simulation of used marks.
+use Prim.Native.Nat.{ℕ, _-_, _<_}
+use native.Mathlib.Omega.{arith}
+use mathlib.Core.Bool.{true}
+use mathlib.Core.List.{List}
+use mathlib.Core.Path.{_≡_, refl, ap}
+use lib.Dec.{leb}
+use Rattle.board.specs.Layout.{functionsMax}
+use Rattle.board.specs.Parts.{withUsed}
+use Rattle.interrupt.specs.Used.{newMark, usedOf, Marked}
+use Rattle.interrupt.specs.declared.used.CardUsed.{CardUsed}
+use Rattle.interrupt.proofs.Marks.{marks-at, marks-put}
+use Rattle.reference.specs.declared.Call.the-variants.{GetCardUsed, SetCardUsed}
+use Rattle.reference.specs.Answers.{ofStatus, ofUsed}
+use Rattle.reference.specs.State.{next, step}
+use Rattle.reference.specs.Reference.{Reference, Told, isHandleOf, referenceStep}
+use Rattle.reference.specs.Run.{partsOf}
+use Rattle.reference.proofs.Tests.{ifBoth, ifAlike}
+use Rattle.reference.proofs.Sound.{Sound, Same, Simulated, as-told, answered, handle-same, handle-within}
+
+module _ (b : Reference) (s : Sound b) where
+  -- the function of a good handle has a mark
+  marked : (handle : ℕ) → isHandleOf b handle ≡ true → handle - 1 < functionsMax
+  marked handle g = let k = handle-within b handle g in omega (arith, s .few, k .0, k .1)
+
+  pub same-get-used : (handle : ℕ) (own : List ℕ) → Simulated b (GetCardUsed handle) own
+  unfolding step referenceStep partsOf
+  same-get-used handle own =
+      answered b s
+      (ap ofUsed (ifAlike (λ (x y : CardUsed). x ≡ y) (handle-same b s handle) (λ g. ap (usedOf true) (marks-at (b .used) (handle - 1) (marked handle g))) (λ g. refl)))
+
+  pub same-set-used : (handle status callBack : ℕ) (own : List ℕ) → Simulated b (SetCardUsed handle status callBack) own
+  unfolding step referenceStep partsOf
+  same-set-used handle status callBack own =
+      let Marks : Marked → Told → Type 0 = λ w t. Same (next (ofStatus (w .status)) (withUsed (w .used) (partsOf b)) own) t in
+      ifAlike Marks (handle-same b s handle)
+      (λ g.
+      ifBoth Marks (leb status 3)
+      (λ e.
+      record {
+        answer = refl;
+        parts = ap (λ (l : List ℕ). withUsed l (partsOf b)) (marks-put (b .used) (handle - 1) (newMark status callBack) (marked handle g));
+        own = refl;
+        sound = record { few = s .few; sized = s .sized; fits = s .fits; chained = s .chained };
+      })
+      (λ e. as-told b s))
+      (λ g. as-told b s)

@@ -1,0 +1,8 @@
+-- The laws that proofs here and above cite.
+pub mod Fields
+pub mod Turns
+pub mod Back
+pub mod Shows
+pub mod Sources
+pub mod Walks
+pub mod WalkBack

@@ -1,0 +1,5 @@
+-- The definitions that contracts cite, and the statements about them.
+pub mod Descriptor
+pub mod Resource
+pub mod Walk
+pub mod Meaning

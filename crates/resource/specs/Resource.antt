@@ -1,0 +1,106 @@
+-- The descriptors of a function's windows: document 01, "Descriptors" and "Numbers handed back", Resource.
+use Prim.Native.Nat.{ℕ, zero, suc, _+_, _-_, _*_, _^_}
+use mathlib.Core.Bool.{Bool, cond, _&&_}
+use mathlib.Core.List.{List, [], _∷_}
+use lib.Dec.{eqb, leb, ltb}
+use lib.ListN.{length}
+use lib.Seq.{sets}
+use Rattle.board.specs.Handles.{isHandle}
+use Rattle.board.specs.Layout.{bases, exponent, byteOrder, widths, offset, dmaOffset, registerByte, baseRegister}
+use Rattle.board.specs.Statuses.{successful, bufferTooSmall, generalError, badHandle}
+use Rattle.board.specs.declared.status.Status.{Status}
+use Rattle.window_list.specs.Kept.{unpacked}
+use Rattle.window_list.specs.Windows.{Window, spaceOf}
+use Rattle.resource.specs.declared.descriptor.Descriptor.{Descriptor}
+use Rattle.resource.specs.Descriptor.{size, flags, bytesOf}
+
+-- an exponent outside 2..16 is no window
+abbrev pub isWindow : ℕ → Bool
+isWindow k = leb 2 k && leb k 16
+
+-- of n base registers from b on, those that have a window; k is their length exponent
+unfoldable pub windowsFrom : (ℕ → ℕ) → ℕ → ℕ → List ℕ
+windowsFrom k zero b = []
+windowsFrom k (suc n) b = cond (isWindow (k b)) (b ∷ windowsFrom k n (b + 1)) (windowsFrom k n (b + 1))
+
+abbrev pub windowBases : (ℕ → ℕ) → List ℕ
+windowBases k = windowsFrom k bases 0
+
+abbrev pub isOf : ℕ → ℕ → Window → Bool
+isOf handle b w = eqb (w .handle) handle && eqb (w .base) b
+
+-- start is 0 when contested
+abbrev pub shownStart : Window → ℕ
+shownStart w = cond (w .contested) 0 (w .start)
+
+-- and when closed: the window of base register b is not in the list
+unfoldable pub startIn : List Window → ℕ → ℕ → ℕ
+startIn [] handle b = 0
+startIn (w ∷ l) handle b = cond (isOf handle b w) (shownStart w) (startIn l handle b)
+
+-- what a function's descriptors are made of: its handle, the window list, and by base register the length exponent, byte order, widths and current value
+pub record Source : Type 0 where
+  pub handle : ℕ
+  pub windows : List Window
+  pub exponent : ℕ → ℕ
+  pub order : ℕ → ℕ
+  pub widths : ℕ → ℕ
+  pub register : ℕ → ℕ
+  pub offset : ℕ
+  pub dmaOffset : ℕ
+
+-- the descriptor of the window of base register b
+abbrev pub descriptorOf : Source → Bool → ℕ → Descriptor
+descriptorOf s last b =
+    record {
+      next = size;
+      flags = flags last (eqb (spaceOf (s .register b)) 1) (s .widths b) (s .order b);
+      start = startIn (s .windows) (s .handle) b;
+      length = 2 ^ s .exponent b;
+      offset = s .offset;
+      dmaoffset = s .dmaOffset;
+    }
+
+-- of some base registers, the last one marked
+unfoldable pub described : Source → List ℕ → List Descriptor
+described s [] = []
+described s (b ∷ l) = descriptorOf s (eqb (length l) 0) b ∷ described s l
+
+abbrev pub descriptors : Source → List Descriptor
+descriptors s = described s (windowBases (s .exponent))
+
+-- a status, and the lent buffer
+pub record Gave : Type 0 where
+  pub status : Status
+  pub out : List ℕ
+
+abbrev pub gave : Status → List ℕ → Gave
+gave status out = record { status = status; out = out }
+
+-- the checks in their order, of a handle that is good or not; bytes past the last descriptor stay
+unfoldable pub resource : Bool → Source → List ℕ → Gave
+resource good s out =
+    let n = length (windowBases (s .exponent)) in
+    cond good
+    (cond (eqb n 0) (gave generalError out)
+    (cond (ltb (length out) (size * n)) (gave bufferTooSmall out) (gave successful (sets out 0 (bytesOf (descriptors s))))))
+    (gave badHandle out)
+
+-- of the lent parts
+abbrev pub sourceOf : List ℕ → List ℕ → List ℕ → ℕ → Source
+sourceOf records registers windows handle =
+    let i = handle - 1 in
+    record {
+      handle = handle;
+      windows = unpacked windows;
+      exponent = exponent records i;
+      order = byteOrder records i;
+      widths = widths records i;
+      register = baseRegister (registerByte registers i);
+      offset = offset records i;
+      dmaOffset = dmaOffset records i;
+    }
+
+abbrev pub getResource : List ℕ → List ℕ → List ℕ → List ℕ → ℕ → List ℕ → Gave
+getResource header records registers windows handle out =
+    resource (isHandle header handle) (sourceOf records registers windows handle) out

@@ -1,0 +1,193 @@
+// The descriptors of a function's windows, in base register order.
+use crate::descriptor::Descriptor;
+use crate::descriptor::NEXT;
+use crate::descriptor::SIZE;
+use crate::descriptor::flags;
+use crate::descriptor::put;
+use board::handle::is_handle;
+use board::layout::BASES;
+use board::layout::Header;
+use board::layout::Records;
+use board::layout::Registers;
+use board::layout::Windows;
+use board::layout::base_register;
+use board::layout::byte_order;
+use board::layout::dma_offset;
+use board::layout::exponent;
+use board::layout::offset;
+use board::layout::widths;
+use board::number::power;
+use board::status::Status;
+use window_list::kept::base_of;
+use window_list::kept::handle_of;
+use window_list::kept::is_contested;
+use window_list::kept::length_of;
+use window_list::kept::start_of;
+ghost use mathlib.Core.Bool.{true};
+ghost use mathlib.Core.Path.{_≡_};
+ghost use lib.ListN.{length};
+ghost use lib.Seq.{sets};
+ghost use Prim.Native.Nat.{_-_, _*_, _^_, _≤_};
+ghost use Rattle.board.specs.Layout.{exponent};
+ghost use Rattle.window_list.specs.Kept.{unpack, unpacked};
+ghost use Rattle.resource.specs.Descriptor.{size, bytesOf};
+ghost use Rattle.resource.specs.Resource.{isWindow, windowBases, isOf, shownStart, startIn, descriptorOf, descriptors, sourceOf, gave, getResource};
+
+// The place of a handle's function; of 0, which is no handle, place 0.
+fn place(handle: u32) -> u32
+    ensures { λ r. ⌜ r ≡ handle - 1 ⌝ }
+{
+    if handle == 0 { 0 } else { handle - 1 }
+}
+
+// Whether a length exponent is a window's.
+fn is_window(k: u8) -> bool
+    ensures { λ r. ⌜ r ≡ isWindow k ⌝ }
+{
+    (2 <= k) & (k <= 16)
+}
+
+// How many windows a function has.
+fn window_count(records: &Records, function: u32) -> usize
+    ensures { λ r. ⌜ r ≡ length (windowBases (exponent (now (records .entry)) function)) ⌝ }
+{
+    let mut n = 0;
+    let mut b = 0;
+    while b < BASES as u8 {
+        let k = exponent(records, function, b);
+        b += 1;
+        if !is_window(k) {
+            continue;
+        }
+        n += 1;
+    }
+    n
+}
+
+// Whether a kept number is the window of a base register of a handle.
+fn is_of(w: u64, handle: u32, base: u8) -> bool
+    ensures { λ r. ⌜ r ≡ isOf handle base (unpack w) ⌝ }
+{
+    (handle_of(w) == handle) & (base_of(w) == base as u32)
+}
+
+// A window's start; 0 where it is contested.
+fn shown_start(w: u64) -> u32
+    ensures { λ r. ⌜ r ≡ shownStart (unpack w) ⌝ }
+{
+    let contested = is_contested(w);
+    if !contested {
+        return start_of(w);
+    }
+    0
+}
+
+// The start of a base register's window in the kept list; 0 where it is closed or contested.
+fn start_in(list: &[u64], handle: u32, base: u8) -> u32
+    ensures { λ r. ⌜ r ≡ startIn (unpacked (now (list .entry))) handle base ⌝ }
+{
+    let mut j = 0;
+    while j < list.len() {
+        let w = list[j];
+        if length_of(w) == 0 {
+            return 0;
+        }
+        if is_of(w, handle, base) {
+            return shown_start(w);
+        }
+        j += 1;
+    }
+    0
+}
+
+// A window's length.
+fn length(k: u8) -> u32
+    requires { ⌜ k ≤ 16 ⌝ }
+    ensures { λ r. ⌜ r ≡ 2 ^ k ⌝ }
+{
+    power(k as u32) as u32
+}
+
+// The descriptor of the window of a base register.
+fn descriptor_of(
+    records: &Records,
+    registers: &Registers,
+    windows: &Windows,
+    handle: u32,
+    last: bool,
+    base: u8,
+) -> Descriptor
+    requires { ⌜ isWindow (exponent (now records) (handle - 1) base) ≡ true ⌝ }
+    ensures { λ r. ⌜ r ≡ descriptorOf (sourceOf (now (records .entry)) (now (registers .entry)) (now (windows .entry)) handle) last base ⌝ }
+{
+    let function = place(handle);
+    let start = start_in(windows, handle, base);
+    let io = base_register(registers, function, base) % 2 == 1;
+    Descriptor {
+        next: NEXT,
+        flags: flags(
+            last,
+            io,
+            widths(records, function, base),
+            byte_order(records, function, base),
+        ),
+        start: start,
+        length: length(exponent(records, function, base)),
+        offset: offset(records, function),
+        dmaoffset: dma_offset(records, function),
+    }
+}
+
+// Stores the descriptors of all windows of a function.
+fn put_all(
+    records: &Records,
+    registers: &Registers,
+    windows: &Windows,
+    handle: u32,
+    count: usize,
+    out: &mut [u8],
+)
+    requires { ⌜ (count ≡ length (windowBases (exponent (now records) (handle - 1)))) × (size * count ≤ length (now out)) ⌝ }
+    ensures { λ _. ⌜ now (out .exit) ≡ sets (now (out .entry)) 0 (bytesOf (descriptors (sourceOf (now (records .entry)) (now (registers .entry)) (now (windows .entry)) handle))) ⌝ }
+{
+    let function = place(handle);
+    let mut n = 0;
+    let mut b = 0;
+    while b < BASES as u8 {
+        let base = b;
+        b += 1;
+        if !is_window(exponent(records, function, base)) {
+            continue;
+        }
+        let d = descriptor_of(records, registers, windows, handle, n + 1 == count, base);
+        put(out, SIZE * n, d);
+        n += 1;
+    }
+}
+
+// Fills a lent buffer with the descriptors of a function's windows.
+pub fn get_resource(
+    header: &Header,
+    records: &Records,
+    registers: &Registers,
+    windows: &Windows,
+    handle: u32,
+    out: &mut [u8],
+) -> Status
+    ensures { λ r. ⌜ gave r (now (out .exit)) ≡ getResource (now (header .entry)) (now (records .entry)) (now (registers .entry)) (now (windows .entry)) handle (now (out .entry)) ⌝ }
+{
+    let good = is_handle(header, handle);
+    let count = window_count(records, place(handle));
+    let short = out.len() < SIZE * count;
+    if !good {
+        return Status::BAD_HANDLE;
+    }
+    if count == 0 {
+        return Status::GENERAL_ERROR;
+    }
+    if short {
+        return Status::BUFFER_TOO_SMALL;
+    }
+    put_all(records, registers, windows, handle, count, out);
+    Status::SUCCESSFUL
+}

@@ -1,0 +1,123 @@
+-- What scripts mean: their calls are read as they were written, and nothing else is read.
+use Prim.Native.Nat.{ℕ, zero, suc, _+_, _≤_}
+use native.Mathlib.Omega.{arith}
+use mathlib.Core.List.{List, [], _∷_, _++_, append-assoc, append-nil}
+use mathlib.Core.Path.{_≡_, refl, sym, ap, _∙_}
+use lib.ListN.{length, take, drop, length-append, length-drop, take-append-drop}
+use lib.Seq.{take-at, drop-at, drop-drop, drop-length}
+use Rattle.board.specs.Tables.{tableFrom}
+use Rattle.reference.specs.declared.Call.{Call}
+use Rattle.reference.specs.Reference.{referenceStart}
+use Rattle.reference.specs.Run.{Asked, referenceAnswers, referenceAfter, partsOf}
+use Rattle.script.specs.declared.decode.Decoded.{Decoded}
+use Rattle.script.specs.declared.decode.Decoded.the-variants.{Known, Malformed}
+use Rattle.script.specs.declared.fields.Fields.{Fields}
+use Rattle.script.specs.Format.{headerSize, headerOf, encoded}
+use Rattle.script.specs.Script.{front, ownBytes, callsFrom, bytesOf, rendered, ran, runOf}
+use Rattle.script.specs.Meaning.{U32, Holds, HoldsAll, scriptOf, ScriptRead, EveryRun}
+use Rattle.script.proofs.Fronts.{whole, front-short, front-whole}
+use Rattle.script.proofs.Meaning.{encode-decode, decode-encode}
+use Rattle.script.proofs.Runs.{calls-known, calls-none, own-size}
+
+header-length : (f : Fields) (own : ℕ) → length (headerOf f own) ≡ headerSize
+unfolding headerOf tableFrom
+header-length f own = refl
+
+-- a call with its own buffer at the front of a script
+module _ (c : Call) (own rest : List ℕ) (h : Holds c) (k : U32 (length own)) where
+  written : List ℕ
+  written = encoded c (length own) ++ (own ++ rest)
+
+  after-header : drop headerSize written ≡ own ++ rest
+  unfolding written
+  after-header = drop-at (encoded c (length own)) (own ++ rest) headerSize (header-length _ (length own))
+
+  written-size : length written ≡ headerSize + (length own + length rest)
+  unfolding written
+  written-size = length-append (encoded c (length own)) _ ∙ rw (header-length _ (length own), length-append own rest)
+
+  front-written : front written ≡ Known c (length own)
+  unfolding written
+  front-written =
+      let size = written-size in
+      sym (front-whole written (omega arith)
+      (rw (take-at (encoded c (length own)) (own ++ rest) headerSize (header-length _ (length own))) (encode-decode c (length own) h k)) (omega arith))
+
+  own-written : ownBytes (length own) written ≡ own
+  own-written = rw after-header (take-at own rest (length own) refl)
+
+  rest-written : drop (headerSize + length own) written ≡ rest
+  rest-written = rw (← drop-drop (length own) headerSize written, after-header) (drop-at own rest (length own) refl)
+
+front-empty : front [] ≡ Malformed
+front-empty = sym (front-short [] (omega arith))
+
+read-back : (cs : List Asked) (k : ℕ) → HoldsAll cs → length (scriptOf cs) ≤ k → callsFrom k (scriptOf cs) ≡ cs
+unfolding scriptOf written
+read-back [] k h m = calls-none k [] front-empty
+read-back (c ∷ cs) zero h m = absurd (omega (arith, written-size (c .call) (c .own) (scriptOf cs) (h .0 .0) (h .0 .1)))
+read-back (c ∷ cs) (suc k) h m =
+    let size = written-size (c .call) (c .own) (scriptOf cs) (h .0 .0) (h .0 .1) in
+    calls-known k (scriptOf (c ∷ cs)) (front-written (c .call) (c .own) (scriptOf cs) (h .0 .0) (h .0 .1))
+    ∙ rw (
+      own-written (c .call) (c .own) (scriptOf cs) (h .0 .0) (h .0 .1),
+      rest-written (c .call) (c .own) (scriptOf cs) (h .0 .0) (h .0 .1),
+      read-back cs k (h .1) (omega arith),
+    )
+
+bytes-size : (cs : List Asked) → bytesOf cs ≡ length (scriptOf cs)
+unfolding bytesOf scriptOf
+bytes-size [] = refl
+bytes-size (c ∷ cs) =
+    sym (length-append (encoded (c .call) (length (c .own))) _
+    ∙ rw (header-length _ (length (c .own)), length-append (c .own) (scriptOf cs), ← bytes-size cs) (omega arith))
+
+pub every-run : EveryRun
+unfolding runOf
+every-run cs cells h =
+    rw (read-back cs (length (scriptOf cs)) h (omega arith), bytes-size cs, drop-length (scriptOf cs))
+    (ap (λ (l : List ℕ). ran (length (scriptOf cs)) l (partsOf (referenceAfter (referenceStart cells) cs)))
+    (append-nil (rendered (referenceAnswers (referenceStart cells) cs))))
+
+-- a list of bytes is the script of calls and what follows them, where no call stands
+record CoveredBy (l : List ℕ) (cs : List Asked) : Type 0 where
+  calls : l ≡ scriptOf cs ++ drop (bytesOf cs) l
+  stop : front (drop (bytesOf cs) l) ≡ Malformed
+
+covered-none : (k : ℕ) (l : List ℕ) → front l ≡ Malformed → CoveredBy l (callsFrom k l)
+unfolding scriptOf bytesOf
+covered-none k l e = rw (calls-none k l e) (record { calls = refl; stop = e })
+
+covered-more : (k : ℕ) (l : List ℕ) (c : Call) (own : ℕ) → front l ≡ Known c own
+    → CoveredBy (drop (headerSize + own) l) (callsFrom k (drop (headerSize + own) l)) → CoveredBy l (callsFrom (suc k) l)
+unfolding scriptOf bytesOf
+covered-more k l c own e r =
+    let w = whole l c own e in
+    let size = own-size l c own e in
+    let rest = callsFrom k (drop (headerSize + own) l) in
+    let mine = ownBytes own l in
+    let header : take headerSize l ≡ encoded c own = decode-encode (take headerSize l) c own (w .says) in
+    let split : l ≡ encoded c own ++ (mine ++ drop (headerSize + own) l) =
+    sym (take-append-drop headerSize l) ∙ rw header
+    (ap (λ (x : List ℕ). encoded c own ++ x) (sym (take-append-drop own (drop headerSize l)) ∙ rw (drop-drop own headerSize l))) in
+    let after : drop (headerSize + own) l ≡ scriptOf rest ++ drop (headerSize + own + bytesOf rest) l =
+    r .calls ∙ rw (drop-drop (bytesOf rest) (headerSize + own) l) in
+    rw (calls-known k l e)
+    (record {
+      calls = rw size (split ∙ ap (λ (x : List ℕ). encoded c own ++ (mine ++ x)) after ∙ simp append-assoc);
+      stop = rw (size, ← drop-drop (bytesOf rest) (headerSize + own) l) (r .stop);
+    })
+
+covered : (k : ℕ) (l : List ℕ) → length l ≤ k → CoveredBy l (callsFrom k l)
+covered zero [] h = covered-none zero [] front-empty
+covered zero (x ∷ l) h = absurd (omega arith)
+covered (suc k) l h = by (front l) refl (λ m less. covered k m less)
+  where
+    by : (d : Decoded) → front l ≡ d → ((m : List ℕ) → length m ≤ k → CoveredBy m (callsFrom k m)) → CoveredBy l (callsFrom (suc k) l)
+    by (Known c own) e more =
+        let w = whole l c own e in
+        covered-more k l c own e (more (drop (headerSize + own) l) (rw (length-drop (headerSize + own) l) (omega (arith, w .enough))))
+    by Malformed e more = covered-none (suc k) l e
+
+pub script-read : ScriptRead
+script-read l = let c = covered (length l) l (omega arith) in record { calls = c .calls; stop = c .stop }

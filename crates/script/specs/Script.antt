@@ -1,0 +1,69 @@
+-- Scripts: the calls of one, where it stops, and what a run leaves: docs/SCRIPT.md.
+use Prim.Native.Nat.{ℕ, zero, suc, _+_, _-_}
+use mathlib.Core.Bool.{cond}
+use mathlib.Core.List.{List, [], _∷_, _++_}
+use lib.Dec.{ltb}
+use lib.ListN.{length, take, drop}
+use Rattle.board.specs.Parts.{Parts}
+use Rattle.reference.specs.declared.Call.{Call}
+use Rattle.reference.specs.Reference.{referenceStart}
+use Rattle.reference.specs.Run.{Asked, Heard, asked, referenceAnswers, referenceAfter, partsOf}
+use Rattle.script.specs.declared.decode.Decoded.{Decoded}
+use Rattle.script.specs.declared.decode.Decoded.the-variants.{Known, Malformed}
+use Rattle.script.specs.Format.{headerSize, decoded, answerBytes}
+
+-- a call's own buffer fits into what remains, or the call is malformed
+abbrev pub fitting : ℕ → Decoded → Decoded
+fitting room (Known c own) = cond (ltb room own) Malformed (Known c own)
+fitting room Malformed = Malformed
+
+-- the call at the front of a script
+unfoldable pub front : List ℕ → Decoded
+front l = cond (ltb (length l) headerSize) Malformed (fitting (length l - headerSize) (decoded (take headerSize l)))
+
+abbrev pub onCall : {A : Type 0} → Decoded → (Call → ℕ → A) → A → A
+onCall (Known c own) f x = f c own
+onCall Malformed f x = x
+
+-- the own buffer of the call at the front
+abbrev pub ownBytes : ℕ → List ℕ → List ℕ
+ownBytes own l = take own (drop headerSize l)
+
+-- the calls from the front up to the first malformed one, n at most
+unfoldable pub callsFrom : ℕ → List ℕ → List Asked
+callsFrom zero l = []
+callsFrom (suc n) l = onCall (front l) (λ c own. asked c (ownBytes own l) ∷ callsFrom n (drop (headerSize + own) l)) []
+
+-- a script has no more calls than bytes
+abbrev pub callsIn : List ℕ → List Asked
+callsIn script = callsFrom (length script) script
+
+-- the bytes that calls take
+unfoldable pub bytesOf : List Asked → ℕ
+bytesOf [] = 0
+bytesOf (c ∷ cs) = headerSize + length (c .own) + bytesOf cs
+
+-- the place of the first malformed call, or the script's length
+abbrev pub stopIn : List ℕ → ℕ
+stopIn script = bytesOf (callsIn script)
+
+-- answers over the headers, own buffers where they stood
+unfoldable pub rendered : List Heard → List ℕ
+rendered [] = []
+rendered (h ∷ hs) = answerBytes (h .answer) (length (h .own)) ++ (h .own ++ rendered hs)
+
+-- the place handed back, the script and the lent parts
+pub record Ran : Type 0 where
+  pub place : ℕ
+  pub script : List ℕ
+  pub parts : Parts
+
+abbrev pub ran : ℕ → List ℕ → Parts → Ran
+ran place script p = record { place = place; script = script; parts = p }
+
+-- THE CONTRACT OF RUN, in the reference machine's words
+unfoldable pub runOf : List ℕ → List ℕ → Ran
+runOf script cells =
+    let calls = callsIn script in
+    let b = referenceStart cells in
+    ran (stopIn script) (rendered (referenceAnswers b calls) ++ drop (stopIn script) script) (partsOf (referenceAfter b calls))
