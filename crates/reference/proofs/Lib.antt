@@ -27,4 +27,3 @@ pub mod Quiet
 pub mod Seen
 pub mod NonInterference
 pub mod Demand3
-pub mod Cases

@@ -4,4 +4,3 @@ pub mod State
 pub mod Reference
 pub mod Run
 pub mod Claims
-pub mod Cases

@@ -1,53 +1,22 @@
--- Board B1 and its proved cases on the reference machine: document 01, "Board B1 and its cases".
+-- The proved cases, one table under one sentence: document 01, "Board B1 and its cases".
 use Prim.Native.Nat.{ℕ}
 use mathlib.Core.List.{List, [], _∷_, _++_, map}
 use mathlib.Core.Path.{_≡_}
 use lib.IntN.{pos}
-use lib.ListN.{length, replicate, set}
-use Rattle.board.specs.Layout.{recordSize}
+use lib.ListN.{length, replicate}
 use Rattle.board.specs.Numbers.{bigBytes}
 use Rattle.board.specs.Statuses.{successful, deviceNotFound, generalError}
 use Rattle.board.specs.declared.number.Width.the-variants.{Byte, Long}
 use Rattle.access.specs.Cells.{valueAt}
 use Rattle.access.specs.Orders.{placed}
 use Rattle.access.specs.declared.find.Space.the-variants.{Memory}
 use Rattle.reference.specs.declared.Answer.{Answer}
 use Rattle.reference.specs.declared.Call.{Call}
 use Rattle.reference.specs.declared.Call.the-variants.{Load, FindPciDevice, FindPciClasscode, ReadConfig, WriteConfig, WriteData, GetResource, HookInterrupt, ListChain, ListWindow}
 use Rattle.reference.specs.Answers.{answer, zeros, one, ofStatus, ofSearch, ofChain}
 use Rattle.reference.specs.Reference.{referenceStart}
-use Rattle.reference.specs.Run.{asked, heard, referenceAnswers}
-
--- a byte and its place in a record; bytes not named are 0
-pub record PlacedByte : Type 0 where
-  pub place : ℕ
-  pub value : ℕ
-
-abbrev pub at : ℕ → ℕ → PlacedByte
-at place value = record { place = place; value = value }
-
-unfoldable pub stored : List PlacedByte → List ℕ
-stored [] = replicate recordSize 0
-stored (b ∷ bs) = set (stored bs) (b .place) (b .value)
-
--- vendor 0F0Fh, device 0001h, command 0003h with mask 0003h, class 118000h, line 5 with mask FFh, pin 1
-abbrev pub both : List PlacedByte
-both =
-    at 0x00 0x0F ∷ at 0x01 0x0F ∷ at 0x02 0x01 ∷ at 0x04 0x03 ∷ at 0x104 0x03 ∷ at 0x0A 0x80 ∷ at 0x0B 0x11 ∷ at 0x3C 5 ∷ at 0x13C 0xFF ∷ at 0x3D 1 ∷ []
-
--- base 0: k 10, order 1, widths 7, with its mask
-abbrev pub memory : List PlacedByte
-memory = at 0x111 0xFC ∷ at 0x112 0xFF ∷ at 0x113 0xFF ∷ at 512 10 ∷ at 513 1 ∷ at 514 7 ∷ []
-
--- base 1: k 4, order 2, widths 1, with its mask
-abbrev pub ports : List PlacedByte
-ports = at 0x114 0xF0 ∷ at 0x115 0xFF ∷ at 0x116 0xFF ∷ at 0x117 0xFF ∷ at 516 4 ∷ at 517 2 ∷ at 518 1 ∷ []
-
--- memory at 80000000h; memory at 80000400h and I/O at 00000100h; the trailer: 1,100 back, 2 records, edition 1, sum 3,720
-unfoldable pub b1 : List ℕ
-b1 =
-    stored (at 0x13 0x80 ∷ both ++ memory) ++ stored (at 0x11 0x04 ∷ at 0x13 0x80 ∷ at 0x14 0x01 ∷ at 0x15 0x01 ∷ both ++ (memory ++ ports))
-    ++ (0 ∷ 0 ∷ 4 ∷ 0x4C ∷ 0 ∷ 2 ∷ 0 ∷ 1 ∷ 0 ∷ 0 ∷ 0x0E ∷ 0x88 ∷ [])
+use Rattle.reference.specs.Run.{Asked, Heard, asked, heard, referenceAnswers}
+use Rattle.proved_cases.specs.B1.{b1}
 
 -- a value that cells at the start of a window give in a byte order
 pub record Reading : Type 0 where
@@ -145,23 +114,31 @@ p14 =
 abbrev pub table : List Case
 table = b1List ∷ p1 ∷ p2 ∷ p3 ∷ p4 ∷ p5 ∷ p6 ∷ p7 ∷ p8 ∷ p9 ∷ p10 ∷ p11 ∷ p12 ∷ p13 ∷ p14 ∷ []
 
--- a case holds where the reference machine, with B1's 2,064 cells, loads B1 and then gives its answers; or where the byte-order rule gives what is read
-abbrev pub Holds : Case → Type 0
-Holds (case calls answers) =
-    referenceAnswers (referenceStart (replicate 2064 0)) (asked Load b1 ∷ map (λ call. asked call []) calls)
-    ≡ heard (ofStatus successful) b1 ∷ map (λ a. heard a []) answers
-Holds (buffer call left) =
-    referenceAnswers (referenceStart (replicate 2064 0)) (asked Load b1 ∷ asked call (replicate (length left) 0) ∷ [])
-    ≡ heard (ofStatus successful) b1 ∷ heard (ofStatus successful) left ∷ []
-Holds (cells l readings) = map (λ r. valueAt (r .order) (r .width) (placed (r .order) (r .width) 0) l) readings ≡ map (λ r. r .value) readings
+-- what a machine answers to calls from the start, with B1's 2,064 cells
+abbrev pub Machine : Type 0
+Machine = List Asked → List Heard
 
--- THE PROVED CASES: every row of the table holds
-abbrev pub Every : List Case → Type 0
-Every [] = Unit {0}
-Every (c ∷ cs) = Holds c × Every cs
+abbrev pub cells2064 : List ℕ
+cells2064 = replicate 2064 0
+
+abbrev pub reference : Machine
+reference = referenceAnswers (referenceStart cells2064)
+
+-- a case holds of a machine that loads B1 and then gives its answers; a reading where the byte-order rule gives it
+abbrev pub Holds : Machine → Case → Type 0
+Holds m (case calls answers) =
+    m (asked Load b1 ∷ map (λ call. asked call []) calls) ≡ heard (ofStatus successful) b1 ∷ map (λ a. heard a []) answers
+Holds m (buffer call left) =
+    m (asked Load b1 ∷ asked call (replicate (length left) 0) ∷ []) ≡ heard (ofStatus successful) b1 ∷ heard (ofStatus successful) left ∷ []
+Holds m (cells l readings) = map (λ r. valueAt (r .order) (r .width) (placed (r .order) (r .width) 0) l) readings ≡ map (λ r. r .value) readings
+
+-- THE PROVED CASES: every row of the table holds of the reference machine
+abbrev pub Every : Machine → List Case → Type 0
+Every m [] = Unit {0}
+Every m (c ∷ cs) = Holds m c × Every m cs
 
 abbrev pub ProvedCases : Type 0
-ProvedCases = Every table
+ProvedCases = Every reference table
 
 -- with one cell less B1 is refused with 8
 abbrev pub B1Short : Type 0

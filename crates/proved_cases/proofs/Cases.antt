@@ -15,9 +15,10 @@ use Rattle.record.specs.Record.{entryOk, recordOk}
 use Rattle.image.specs.Cells.{cellsBefore}
 use Rattle.image.specs.Image.{sum}
 use Rattle.image.specs.Refusals.{firstBad, firstRefusal}
 use Rattle.reference.specs.Reference.{placeIn, split, verdict, referenceStep}
 use Rattle.reference.specs.Run.{referenceAnswers}
-use Rattle.reference.specs.Cases.{stored, b1, ProvedCases, B1Short}
+use Rattle.proved_cases.specs.B1.{stored, b1}
+use Rattle.proved_cases.specs.Cases.{ProvedCases, B1Short}
 
 pub proved-cases : ProvedCases
 unfolding stored b1 little big tableFrom windowAt gather openWindows put putAll listOf listedNumber listedValues target matching searchNumber inList find placeIn reversed descriptorBytes bytesOf windowsFrom startIn described resource placeNumber placeValues isAmong entryOk recordOk cellsBefore sum firstBad firstRefusal split verdict referenceStep referenceAnswers

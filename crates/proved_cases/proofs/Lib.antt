@@ -1,0 +1,3 @@
+-- The proofs of the cases and of what refuses each idle bus.
+pub mod Cases
+pub mod Idle

@@ -1,0 +1,126 @@
+-- Idle buses, and the row of the table that refuses each: document 01, "What the promises say".
+use Prim.Native.Nat.{ℕ, _+_}
+use mathlib.Core.Bool.{Bool, true, false, cond, not, _||_}
+use mathlib.Core.List.{List, [], _∷_}
+use mathlib.Core.Path.{_≡_}
+use lib.Dec.{ltb}
+use lib.IntN.{ℤ, pos}
+use Rattle.board.specs.Statuses.{successful, deviceNotFound}
+use Rattle.reference.specs.declared.Answer.{Answer}
+use Rattle.reference.specs.declared.Call.{Call}
+use Rattle.reference.specs.declared.Call.the-variants.{Load, Reset, WriteImage, FindPciDevice, FindPciClasscode, ReadConfig, FastReadConfig, WriteConfig, ReadData, FastReadData, WriteData, BusToCpu, CpuToBus, GetResource, HookInterrupt, UnhookInterrupt, ListChain, GetCardUsed, SetCardUsed, SpecialCycle, GetRouting, SetInterrupt, ListWindow}
+use Rattle.reference.specs.Answers.{answer, zeros, ofStatus}
+use Rattle.reference.specs.Claims.{refusals}
+use Rattle.reference.specs.Reference.{Reference, Told, told, referenceStart}
+use Rattle.reference.specs.Run.{Asked, Heard, heard, referenceOn}
+use Rattle.proved_cases.specs.Cases.{Case, Machine, Holds, found, cells2064, b1List, p1, p2, p6, p10, p11}
+
+-- the kinds of call that an idle bus may answer in a way of its own
+pub data Kind : Type 0 where
+  load : Kind
+  search : Kind
+  write : Kind
+  list : ℕ → Kind
+  other : Kind
+
+unfoldable pub kindOf : Call → Kind
+kindOf Load = load
+kindOf Reset = other
+kindOf WriteImage = other
+kindOf (FindPciDevice id index) = search
+kindOf (FindPciClasscode class index) = search
+kindOf (ReadConfig width handle register) = other
+kindOf (FastReadConfig width handle register) = other
+kindOf (WriteConfig width handle register value) = write
+kindOf (ReadData space width handle address) = other
+kindOf (FastReadData space width handle address) = other
+kindOf (WriteData space width handle address value) = write
+kindOf (BusToCpu handle address) = other
+kindOf (CpuToBus handle address) = other
+kindOf (GetResource handle) = other
+kindOf (HookInterrupt handle handler parameter) = other
+kindOf (UnhookInterrupt handle) = other
+kindOf (ListChain line place) = other
+kindOf (GetCardUsed handle) = other
+kindOf (SetCardUsed handle status callBack) = other
+kindOf (SpecialCycle bus message) = other
+kindOf (GetRouting handle) = other
+kindOf (SetInterrupt handle mode) = other
+kindOf (ListWindow n) = list n
+
+abbrev pub isWrite : Kind → Bool
+isWrite load = false
+isWrite search = false
+isWrite write = true
+isWrite (list n) = false
+isWrite other = false
+
+-- a bus that follows the reference machine but for a rule: the rule is given how many writes came before, the state before the call, the call and what the
+-- reference machine tells
+abbrev pub Rule : Type 0
+Rule = ℕ → Reference → Asked → Told → Told
+
+unfoldable pub following : Rule → ℕ → Reference → List Asked → List Heard
+following rule n b [] = []
+following rule n b (c ∷ cs) =
+    let t = rule n b c (referenceOn b c) in
+    heard (t .answer) (t .own) ∷ following rule (cond (isWrite (kindOf (c .call))) (n + 1) n) (t .reference) cs
+
+abbrev pub bus : Rule → Machine
+bus rule = following rule 0 (referenceStart cells2064)
+
+-- it loads, and refuses everything else with the first number that the call can be refused with
+abbrev pub firstOf : List ℤ → ℤ
+firstOf [] = pos 0
+firstOf (z ∷ zs) = z
+
+abbrev pub refusedBut : Kind → Reference → Asked → Told → Told
+refusedBut load b c t = t
+refusedBut search b c t = told (answer (firstOf (refusals (c .call))) zeros) b (c .own)
+refusedBut write b c t = told (answer (firstOf (refusals (c .call))) zeros) b (c .own)
+refusedBut (list n) b c t = told (answer (firstOf (refusals (c .call))) zeros) b (c .own)
+refusedBut other b c t = told (answer (firstOf (refusals (c .call))) zeros) b (c .own)
+
+abbrev pub refusesEverything : Rule
+refusesEverything n b c t = refusedBut (kindOf (c .call)) b c t
+
+-- it gives handle 1 to every search
+abbrev pub foundOr : Kind → Told → Told
+foundOr load t = t
+foundOr search t = told (found 1) (t .reference) (t .own)
+foundOr write t = t
+foundOr (list n) t = t
+foundOr other t = t
+
+abbrev pub findsHandle1 : Rule
+findsHandle1 n b c t = foundOr (kindOf (c .call)) t
+
+-- of its writes only the first m do anything: with m 0 they do nothing, with m 1 it works once and then stands still
+abbrev pub writesUpTo : ℕ → Rule
+writesUpTo m n b c t = cond (not (isWrite (kindOf (c .call))) || ltb n m) t (told (t .answer) b (t .own))
+
+-- it lists m windows, however many are open
+abbrev pub listedOr : Kind → ℕ → Told → Told
+listedOr load m t = t
+listedOr search m t = t
+listedOr write m t = t
+listedOr (list k) m t = told (cond (ltb k m) (answer (successful .0) (t .answer .values)) (ofStatus deviceNotFound)) (t .reference) (t .own)
+listedOr other m t = t
+
+abbrev pub lists : ℕ → Rule
+lists m n b c t = listedOr (kindOf (c .call)) m t
+
+-- a row that a bus does not meet
+abbrev pub Fails : Rule → Case → Type 0
+Fails rule row = Holds (bus rule) row → ⊥
+
+-- EVERY IDLE BUS IS REFUSED, by the rows that document 01 names; the one that stands still has met P6, with one write
+pub record IdleBuses : Type 0 where
+  pub refusesEverythingP1 : Fails refusesEverything p1
+  pub refusesEverythingP10 : Fails refusesEverything p10
+  pub findsHandle1P1 : Fails findsHandle1 p1
+  pub findsHandle1P2 : Fails findsHandle1 p2
+  pub writesDoNothing : Fails (writesUpTo 0) p6
+  pub worksOnce : Holds (bus (writesUpTo 1)) p6
+  pub standsStill : Fails (writesUpTo 1) p11
+  pub madeUpCounts : (m : ℕ) → (m ≡ 3 → ⊥) → Fails (lists m) b1List

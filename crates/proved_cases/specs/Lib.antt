@@ -1,0 +1,4 @@
+-- Board B1, its proved cases, and the idle buses that they refuse.
+pub mod B1
+pub mod Cases
+pub mod Idle
