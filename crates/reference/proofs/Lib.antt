@@ -1,5 +1,6 @@
 -- The laws and the claims' proofs.
 pub mod Tests
+pub mod Signed
 pub mod Records
 pub mod Registers
 pub mod Same

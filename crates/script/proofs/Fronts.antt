@@ -13,9 +13,9 @@ use Rattle.board.specs.Tables.{tableFrom}
 use Rattle.reference.specs.declared.Answer.{Answer}
 use Rattle.reference.specs.declared.Call.{Call}
 use Rattle.reference.specs.State.{Next, next, step}
-use Rattle.script.specs.declared.decode.Decoded.{Decoded}
-use Rattle.script.specs.declared.decode.Decoded.the-variants.{Known, Malformed}
-use Rattle.script.specs.Format.{headerSize, decoded, answerBytes}
+use Rattle.encoding.specs.declared.decode.Decoded.{Decoded}
+use Rattle.encoding.specs.declared.decode.Decoded.the-variants.{Known, Malformed}
+use Rattle.encoding.specs.Format.{headerSize, decoded, answerBytes}
 use Rattle.script.specs.Script.{ran, fitting, front, ownBytes}
 use Rattle.script.specs.Steps.{turnOf}
 

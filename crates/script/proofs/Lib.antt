@@ -1,8 +1,4 @@
--- The laws of the format and of scripts.
-pub mod Bytes
-pub mod Calls
-pub mod Signed
-pub mod Meaning
+-- The laws of scripts.
 pub mod Fronts
 pub mod Runs
 pub mod Loop

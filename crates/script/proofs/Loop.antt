@@ -8,9 +8,9 @@ use lib.ListN.{length, take, drop, length-append, length-drop, drop-of-length-le
 use lib.Seq.{length-take-le, take-all, take-at, drop-at}
 use Rattle.board.specs.Parts.{Parts}
 use Rattle.reference.specs.declared.Call.{Call}
-use Rattle.script.specs.declared.decode.Decoded.{Decoded}
-use Rattle.script.specs.declared.decode.Decoded.the-variants.{Known, Malformed}
-use Rattle.script.specs.Format.{headerSize, answerBytes}
+use Rattle.encoding.specs.declared.decode.Decoded.{Decoded}
+use Rattle.encoding.specs.declared.decode.Decoded.the-variants.{Known, Malformed}
+use Rattle.encoding.specs.Format.{headerSize, answerBytes}
 use Rattle.script.specs.Script.{Ran, ran, front}
 use Rattle.script.specs.Steps.{turnOf}
 use Rattle.script.proofs.Fronts.{whole, front-short, answer-length, turn-none, turn-is}

@@ -1,5 +1,4 @@
--- The format of calls and answers, scripts, and what they mean.
-pub mod Format
+-- Scripts, and what they mean.
 pub mod Script
 pub mod Steps
 pub mod Meaning

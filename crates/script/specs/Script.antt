@@ -8,9 +8,9 @@ use Rattle.board.specs.Parts.{Parts}
 use Rattle.reference.specs.declared.Call.{Call}
 use Rattle.reference.specs.Reference.{referenceStart}
 use Rattle.reference.specs.Run.{Asked, Heard, asked, referenceAnswers, referenceAfter, partsOf}
-use Rattle.script.specs.declared.decode.Decoded.{Decoded}
-use Rattle.script.specs.declared.decode.Decoded.the-variants.{Known, Malformed}
-use Rattle.script.specs.Format.{headerSize, decoded, answerBytes}
+use Rattle.encoding.specs.declared.decode.Decoded.{Decoded}
+use Rattle.encoding.specs.declared.decode.Decoded.the-variants.{Known, Malformed}
+use Rattle.encoding.specs.Format.{headerSize, decoded, answerBytes}
 
 -- a call's own buffer fits into what remains, or the call is malformed
 abbrev pub fitting : ℕ → Decoded → Decoded

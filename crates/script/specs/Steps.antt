@@ -4,7 +4,7 @@ use mathlib.Core.List.{List, _++_}
 use lib.ListN.{drop}
 use Rattle.board.specs.Parts.{Parts}
 use Rattle.reference.specs.State.{step}
-use Rattle.script.specs.Format.{headerSize, answerBytes}
+use Rattle.encoding.specs.Format.{headerSize, answerBytes}
 use Rattle.script.specs.Script.{Ran, ran, front, onCall, ownBytes}
 
 -- the call at the front performed in place, with the bytes that it takes; 0 where it is malformed

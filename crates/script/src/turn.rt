@@ -1,8 +1,4 @@
 // One call of a script.
-use crate::answer::answer_bytes;
-use crate::decode::Decoded;
-use crate::decode::decode;
-use crate::encode::CALL_HEADER;
 use board::layout::CellOffsets;
 use board::layout::Header;
 use board::layout::Hooks;
@@ -12,6 +8,10 @@ use board::layout::Used;
 use board::layout::Windows;
 use bytes::copy;
 use dispatch::perform::perform;
+use encoding::answer::answer_bytes;
+use encoding::decode::Decoded;
+use encoding::decode::decode;
+use encoding::encode::CALL_HEADER;
 ghost use mathlib.Core.Path.{_≡_};
 ghost use Rattle.board.specs.Parts.{parts};
 ghost use Rattle.script.specs.Script.{front, ran};

@@ -1,6 +1,6 @@
 -- `bios_fast_read_data`: the fast read of a known width, or all ones.
 use mathlib.Core.Path.{sym, _∙_}
-use Rattle.dispatch.proofs.Signed.{bool-number}
+use Rattle.reference.proofs.Signed.{bool-number}
 use borrow.Author.Needs.{needs}
 use Rattle.bios.proofs.data_exports.bios_fast_read_data.Statement.{statement}
 use Rattle.bios.proofs.data_exports.bios_fast_read_data.Tie as tie

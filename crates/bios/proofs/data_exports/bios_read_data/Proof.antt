@@ -1,6 +1,6 @@
 -- `bios_read_data`: the read of a known width, or the refusal.
 use mathlib.Core.Path.{sym, _∙_}
-use Rattle.dispatch.proofs.Signed.{back}
+use Rattle.reference.proofs.Signed.{back}
 use borrow.Author.Needs.{needs}
 use Rattle.bios.proofs.data_exports.bios_read_data.Statement.{statement}
 use Rattle.bios.proofs.data_exports.bios_read_data.Tie as tie

@@ -1,6 +1,6 @@
 -- `of_number`: a number of one byte is its own signed reading.
 use Prim.Native.Nat.{_<_}
-use Rattle.dispatch.proofs.Signed.{small, number-refuses}
+use Rattle.reference.proofs.Signed.{small, number-refuses}
 use borrow.Author.Needs.{needs}
 use native.Mathlib.Omega.{arith}
 use Rattle.dispatch.proofs.answer.of_number.Statement.{statement}

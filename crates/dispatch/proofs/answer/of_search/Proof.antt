@@ -1,5 +1,5 @@
 -- `of_search`: a handle is its own signed reading; the status of a refusal is read back.
-use Rattle.dispatch.proofs.Signed.{small, back, below-is}
+use Rattle.reference.proofs.Signed.{small, back, below-is}
 use borrow.Author.Needs.{needs}
 use native.Mathlib.Omega.{arith}
 use Rattle.dispatch.proofs.answer.of_search.Statement.{statement}

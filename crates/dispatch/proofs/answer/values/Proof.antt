@@ -1,5 +1,5 @@
 -- `values`: a mark is 1 or 0.
-use Rattle.dispatch.proofs.Signed.{bool-number}
+use Rattle.reference.proofs.Signed.{bool-number}
 use borrow.Author.Needs.{needs}
 use Rattle.dispatch.proofs.answer.values.Statement.{statement}
 use Rattle.dispatch.proofs.answer.values.Tie as tie

@@ -1,7 +1,7 @@
 -- `with_values`: the status is read back, and refuses where it is not 0.
 use mir.Syntax.{w32}
 use mir.Val.{SFits}
-use Rattle.dispatch.proofs.Signed.{back, bits-refuse}
+use Rattle.reference.proofs.Signed.{back, bits-refuse}
 use Rattle.dispatch.proofs.answer.with_values.Statement.{statement}
 use Rattle.dispatch.proofs.answer.with_values.Tie as tie
 

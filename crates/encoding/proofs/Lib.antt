@@ -1,0 +1,5 @@
+-- The laws of the format.
+pub mod Bytes
+pub mod Calls
+pub mod Signed
+pub mod Meaning

@@ -1,0 +1,17 @@
+-- `fields_at`: each field from its place.
+use borrow.Author.Needs.{needs}
+use Rattle.encoding.proofs.decode.fields_at.Statement.{statement}
+use Rattle.encoding.proofs.decode.fields_at.Tie as tie
+
+pub fields-at-spec : {M : Type 1} → statement M
+fields-at-spec =
+    tie.close
+    (tie.spec
+    (λ c κs. search needs)
+    (λ c κs. search needs)
+    (λ c κs. search needs)
+    (λ c κs. search needs)
+    (λ c κs. search needs)
+    (λ c κs. search needs)
+    (λ c κs. search needs)
+    (λ c. cc))

@@ -1,0 +1,40 @@
+// The bytes of an answer, which are written over the call's header.
+use crate::encode::CALL_HEADER;
+use crate::encode::CallHeader;
+use crate::encode::OWN_LENGTH;
+use crate::put::put_long;
+use crate::put::put_value;
+use reference::Answer;
+ghost use mathlib.Core.Path.{_≡_};
+ghost use Rattle.encoding.specs.Format.{bits, answerBytes};
+
+// The 32 bits of a number, in two's complement.
+fn bits(n: i32) -> u32
+    ensures { λ r. ⌜ r ≡ bits n ⌝ }
+{
+    if n < 0 {
+        let m = -1 - n;
+        return 4294967295 - m as u32;
+    }
+    n as u32
+}
+
+// The answer of a call whose own buffer has so many bytes.
+pub fn answer_bytes(answer: Answer, own: u32) -> CallHeader
+    ensures { λ r. ⌜ r ≡ answerBytes answer own ⌝ }
+{
+    let number = answer.number;
+    let refused = answer.refused;
+    let values = answer.values;
+    let mut out = [0u8; CALL_HEADER];
+    put_long(&mut out, 0, bits(number));
+    out[4] = refused as u8;
+    put_value(&mut out, 8, values[0]);
+    put_value(&mut out, 16, values[1]);
+    put_value(&mut out, 24, values[2]);
+    put_value(&mut out, 32, values[3]);
+    put_value(&mut out, 40, values[4]);
+    put_value(&mut out, 48, values[5]);
+    put_long(&mut out, OWN_LENGTH, own);
+    out
+}
