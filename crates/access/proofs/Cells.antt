@@ -8,10 +8,10 @@ use mathlib.Core.Path.{_≡_, refl, _∙_, ap}
 use lib.Dec.{eqb}
 use lib.ListN.{length, take, drop}
 use lib.Seq.{sets, length-sets, sets-eq, length-take-le}
-use Rattle.board.specs.Numbers.{byteAt, big, bigBytes, reversed}
-use Rattle.board.proofs.Numbers.{reversed-below, reversed-back, big-bytes}
-use Rattle.board.proofs.Stores.{sets-other}
-use Rattle.board.proofs.Tables.{table-length}
+use Rattle.numbers.specs.Numbers.{byteAt, big, bigBytes, reversed}
+use Rattle.numbers.proofs.Numbers.{reversed-below, reversed-back, big-bytes}
+use Rattle.numbers.proofs.Stores.{sets-other}
+use Rattle.numbers.proofs.Tables.{table-length}
 use Rattle.access.specs.Orders.{ordered}
 use Rattle.access.specs.Meaning.{ReadBack, OnlyItsCells}
 

@@ -1,4 +1,3 @@
 -- The laws that proofs here and above cite.
 pub mod Cells
 pub mod Windows
-pub mod Searches

@@ -6,13 +6,13 @@ use lib.Dec.{ltb}
 use lib.ListN.{getD}
 use lib.Seq.{sets}
 use Rattle.board.specs.Layout.{bases, byteOrder}
-use Rattle.board.specs.Numbers.{byteAt, big, bigBytes}
+use Rattle.numbers.specs.Numbers.{byteAt, big, bigBytes}
 use Rattle.board.specs.Statuses.{bufferTooSmall}
-use Rattle.access.specs.declared.find.Finding.{Finding}
-use Rattle.access.specs.declared.find.Finding.the-variants.{Found, BadHandle, ShortCells, NotAligned, Nothing, Contested, WidthMissing}
+use Rattle.find_window.specs.declared.find.Finding.{Finding}
+use Rattle.find_window.specs.declared.find.Finding.the-variants.{Found, BadHandle, ShortCells, NotAligned, Nothing, Contested, WidthMissing}
 use Rattle.access.specs.declared.place.Place.{Place}
 use Rattle.access.specs.declared.place.Place.the-variants.{At, Refused}
-use Rattle.access.specs.Find.{statusOf, findIn}
+use Rattle.find_window.specs.Find.{statusOf, findIn}
 use Rattle.access.specs.Orders.{placed, ordered}
 
 -- the first cell of an access, and the byte order; cells past the buffer, which only an altered board has, give -7, tested last

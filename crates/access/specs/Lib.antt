@@ -1,6 +1,5 @@
 -- The definitions that contracts cite, and the statements about them.
 pub mod Orders
-pub mod Find
 pub mod Cells
 pub mod Data
 pub mod Convert

@@ -3,7 +3,7 @@ use Prim.Native.Nat.{ℕ, _-_}
 use mathlib.Core.Bool.{cond}
 use lib.Bits.{bitXor}
 use lib.Dec.{eqb}
-use Rattle.board.specs.Numbers.{reversed}
+use Rattle.numbers.specs.Numbers.{reversed}
 
 -- where w cells stand for a distance o from the window's start: order 1 uses o XOR 3 for bytes, o XOR 2 for words, o for longwords; every other order o
 abbrev pub placed : ℕ → ℕ → ℕ → ℕ

@@ -1,5 +1,4 @@
 // Reading and writing cells.
-use crate::find::Space;
 use crate::order::ordered;
 use crate::place::Place;
 use crate::place::data_place;
@@ -8,16 +7,17 @@ use board::layout::CellOffsets;
 use board::layout::Header;
 use board::layout::Records;
 use board::layout::Windows;
-use board::number::Width;
-use board::number::big_at;
-use board::number::put_big;
 use board::read::FastRead;
 use board::read::Read;
 use board::read::refused_fast;
 use board::status::Status;
+use find_window::find::Space;
+use numbers::number::Width;
+use numbers::number::big_at;
+use numbers::number::put_big;
 ghost use mathlib.Core.Path.{_≡_};
-ghost use Rattle.board.specs.Numbers.{bytes};
-ghost use Rattle.access.specs.Find.{spaceNumber};
+ghost use Rattle.numbers.specs.Numbers.{bytes};
+ghost use Rattle.find_window.specs.Find.{spaceNumber};
 ghost use Rattle.access.specs.Cells.{valueAt, cellsAfter};
 ghost use Rattle.access.specs.Data.{readData, fastReadData, wrote, writeData};
 

@@ -1,6 +1,5 @@
-// Data calls: the window for a handle, byte orders, reads and writes of cells, and the address conversions.
+// Data calls: byte orders, reads and writes of cells; the address conversions.
 pub mod convert;
 pub mod data;
-pub mod find;
 mod order;
 pub mod place;

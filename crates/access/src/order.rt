@@ -1,8 +1,8 @@
 // The byte-order rule.
-use board::number::Width;
-use board::number::reversed;
+use numbers::number::Width;
+use numbers::number::reversed;
 ghost use mathlib.Core.Path.{_≡_};
-ghost use Rattle.board.specs.Numbers.{bytes};
+ghost use Rattle.numbers.specs.Numbers.{bytes};
 ghost use Rattle.access.specs.Orders.{placed, ordered};
 
 // The byte orders that differ from order 0.

@@ -1,7 +1,4 @@
 // Where the cells of an access stand.
-use crate::find::Finding;
-use crate::find::Space;
-use crate::find::find_window;
 use crate::order::placed;
 use board::address::BusAddress;
 use board::layout::BASES;
@@ -10,16 +7,19 @@ use board::layout::Header;
 use board::layout::Records;
 use board::layout::Windows;
 use board::layout::byte_order;
-use board::number::Width;
-use board::number::bytes;
-use board::number::u32_at;
 use board::status::Status;
+use find_window::find::Finding;
+use find_window::find::Space;
+use find_window::find::find_window;
+use numbers::number::Width;
+use numbers::number::bytes;
+use numbers::number::u32_at;
 ghost use mathlib.Core.Path.{_≡_};
 ghost use lib.ListN.{getD};
 ghost use Prim.Native.Nat.{_+_, _*_};
 ghost use Rattle.board.specs.Layout.{bases, byteOrder};
-ghost use Rattle.board.specs.Numbers.{bytes};
-ghost use Rattle.access.specs.Find.{spaceNumber};
+ghost use Rattle.numbers.specs.Numbers.{bytes};
+ghost use Rattle.find_window.specs.Find.{spaceNumber};
 ghost use Rattle.access.specs.Cells.{cellsAt, dataPlace};
 
 // The first cell and the byte order of an access, or the refusal.

@@ -5,9 +5,9 @@ use mathlib.Core.List.{List, [], _∷_, _++_}
 use lib.Dec.{eqb}
 use lib.IntN.{ℤ}
 use lib.ListN.{replicate}
-use Rattle.board.specs.Numbers.{bytes}
+use Rattle.numbers.specs.Numbers.{bytes}
 use Rattle.board.specs.Statuses.{generalError}
-use Rattle.board.specs.declared.number.Width.the-variants.{Byte, Word, Long}
+use Rattle.numbers.specs.declared.number.Width.the-variants.{Byte, Word, Long}
 use Rattle.board.specs.declared.address.BusAddress.{BusAddress}
 use Rattle.board.specs.declared.address.CpuAddress.{CpuAddress}
 use Rattle.board.specs.declared.status.Status.{Status}
@@ -20,14 +20,14 @@ use Rattle.board.specs.declared.read.FastRead.{FastRead}
 use Rattle.access.specs.Data.{readData, fastReadData, writeData, Wrote as DataWrote, wrote as dataWrote}
 use Rattle.access.specs.declared.convert.ToBus.{ToBus}
 use Rattle.access.specs.declared.convert.ToCpu.{ToCpu}
-use Rattle.access.specs.declared.find.Space.{Space}
-use Rattle.access.specs.declared.find.Space.the-variants.{Memory, Io}
+use Rattle.find_window.specs.declared.find.Space.{Space}
+use Rattle.find_window.specs.declared.find.Space.the-variants.{Memory, Io}
 use Rattle.interrupt.specs.Hooks.{Hook}
 use Rattle.interrupt.specs.Listing.{chainNumber, chainValues}
-use Rattle.interrupt.specs.declared.used.CardUsed.{CardUsed}
+use Rattle.card_used.specs.declared.used.CardUsed.{CardUsed}
 use Rattle.resource.specs.declared.descriptor.Descriptor.{Descriptor}
-use Rattle.resource.specs.declared.step.Step.{Step}
-use Rattle.resource.specs.declared.step.Step.the-variants.{Found as StepFound, Ended as StepEnded}
+use Rattle.walker.specs.declared.step.Step.{Step}
+use Rattle.walker.specs.declared.step.Step.the-variants.{Found as StepFound, Ended as StepEnded}
 use Rattle.image.specs.declared.check.Verdict.{Verdict}
 use Rattle.bios.specs.declared.width.AskedWidth.{AskedWidth}
 use Rattle.bios.specs.declared.width.AskedWidth.the-variants.{Known, Other}

@@ -1,6 +1,8 @@
 // Searches and configuration calls for C. A width is a number here; another than 1, 2 or 4 is refused before all else.
 use crate::width::AskedWidth;
 use crate::width::width_of;
+use answers::searches::class_answer;
+use answers::searches::device_answer;
 use board::layout::Header;
 use board::layout::Records;
 use board::layout::Registers;
@@ -9,12 +11,10 @@ use board::status::Status;
 use config::read::fast_read_config;
 use config::read::read_config;
 use config::write::write_config;
-use dispatch::searches::class_answer;
-use dispatch::searches::device_answer;
 ghost use mathlib.Core.Path.{_≡_};
 ghost use Rattle.board.specs.Handles.{functionCount};
 ghost use Rattle.board.specs.Layout.{registerByte};
-ghost use Rattle.config.specs.Search.{devices, classes, searchNumber};
+ghost use Rattle.search.specs.Search.{devices, classes, searchNumber};
 ghost use Rattle.config.specs.Write.{wrote};
 ghost use Rattle.bios.specs.Exports.{status, widthOf, readNumbers, askedRead, fastNumbers, fastShown, askedFastRead, askedWrite};
 

@@ -17,7 +17,7 @@ use board::status::Status;
 ghost use mathlib.Core.Path.{_≡_};
 ghost use Rattle.access.specs.Convert.{busToCpu, cpuToBus};
 ghost use Rattle.access.specs.Data.{wrote};
-ghost use Rattle.access.specs.Find.{spaceNumber};
+ghost use Rattle.find_window.specs.Find.{spaceNumber};
 ghost use Rattle.bios.specs.Exports.{status, bus, cpu, widthOf, spaceOf, readNumbers, fastNumbers, fastShown, askedData, askedFastData, askedDataWrite, toCpu, toBus};
 
 // Reads a number of a width in a window; the value, 0 where it is refused, goes to `value`.

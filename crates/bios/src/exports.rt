@@ -1,4 +1,5 @@
 // Calls for C: numbers and lent memory in, numbers out. A slice is a pointer and a length, an array or a place for a number is a pointer.
+use answers::answer::of_listing;
 use board::layout::CellOffsets;
 use board::layout::Header;
 use board::layout::Hooks;
@@ -6,7 +7,6 @@ use board::layout::Records;
 use board::layout::Registers;
 use board::layout::Used;
 use board::layout::Windows;
-use dispatch::answer::of_listing;
 use image::check::check_image;
 use image::write::write_image;
 use load::calls::load;

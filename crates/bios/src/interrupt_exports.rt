@@ -1,22 +1,22 @@
 // Hooks, chains and used marks for C, and the calls that always give -2.
+use answers::answer::of_chain;
 use board::layout::Header;
 use board::layout::Hooks;
 use board::layout::Records;
 use board::layout::Used;
-use dispatch::answer::of_chain;
+use card_used::used::get_card_used;
+use card_used::used::set_card_used;
 use interrupt::chain::hook_interrupt;
 use interrupt::chain::unhook_interrupt;
 use interrupt::listing::list_chain;
 use interrupt::unsupported::get_routing;
 use interrupt::unsupported::set_interrupt;
 use interrupt::unsupported::special_cycle;
-use interrupt::used::get_card_used;
-use interrupt::used::set_card_used;
 use reference::Values;
 ghost use mathlib.Core.Path.{_≡_};
 ghost use Rattle.interrupt.specs.Hooks.{chainOf};
 ghost use Rattle.interrupt.specs.Chain.{changed, hookInterrupt, unhookInterrupt};
-ghost use Rattle.interrupt.specs.Used.{marked, getCardUsed, setCardUsed};
+ghost use Rattle.card_used.specs.Used.{marked, getCardUsed, setCardUsed};
 ghost use Rattle.interrupt.specs.Unsupported.{specialCycle, getRouting, setInterrupt};
 ghost use Rattle.bios.specs.Exports.{status, shown, shownHook, cardUsed};
 

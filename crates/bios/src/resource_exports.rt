@@ -5,11 +5,11 @@ use board::layout::Registers;
 use board::layout::Windows;
 use resource::descriptor::Descriptor;
 use resource::resource::get_resource;
-use resource::step::Step;
-use resource::step::descriptor_step;
+use walker::step::Step;
+use walker::step::descriptor_step;
 ghost use mathlib.Core.Path.{_≡_};
 ghost use Rattle.resource.specs.Resource.{gave, getResource};
-ghost use Rattle.resource.specs.Walk.{stepAt};
+ghost use Rattle.walker.specs.Walk.{stepAt};
 ghost use Rattle.bios.specs.Exports.{status, fieldsShown, stepShown, stepNumbers};
 
 // A descriptor as numbers: next, flags, start, length, offset, dmaoffset.

@@ -1,6 +1,6 @@
 // Widths and spaces as C hands them over: numbers.
-use access::find::Space;
-use board::number::Width;
+use find_window::find::Space;
+use numbers::number::Width;
 ghost use mathlib.Core.Path.{_≡_};
 ghost use Rattle.bios.specs.Exports.{widthOf, spaceOf};
 

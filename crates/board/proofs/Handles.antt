@@ -7,7 +7,7 @@ use native.Mathlib.Omega.{arith}
 use borrow.Author.Tests.{le-leb, leb-true}
 use lib.ListN.{getD}
 use Rattle.board.specs.Handles.{isHandle}
-use Rattle.board.proofs.Tests.{both-true}
+use Rattle.numbers.proofs.Tests.{both-true}
 
 -- a handle is at least 1, and at most the kept count and 16
 pub handle-place : (header : List ℕ) (h : ℕ) → isHandle header h ≡ true → (0 < h) × ((h ≤ getD header 0 0) × (h ≤ 16))

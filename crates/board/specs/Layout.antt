@@ -2,7 +2,7 @@
 use Prim.Native.Nat.{ℕ, _+_, _*_}
 use mathlib.Core.List.{List}
 use lib.ListN.{getD}
-use Rattle.board.specs.Numbers.{little, big}
+use Rattle.numbers.specs.Numbers.{little, big}
 
 -- functions of a board at most, base registers of a function, windows of a board at most
 abbrev pub functionsMax : ℕ

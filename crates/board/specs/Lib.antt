@@ -1,8 +1,6 @@
 -- The definitions that contracts cite.
 pub mod Statuses
 pub mod Addresses
-pub mod Tables
-pub mod Numbers
 pub mod Layout
 pub mod Handles
 pub mod Parts

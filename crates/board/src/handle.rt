@@ -1,7 +1,7 @@
 // Handles: the function at place i has handle i + 1, and every other number is a bad handle.
 use crate::layout::FUNCTIONS;
 use crate::layout::Header;
-use crate::number::u32_at;
+use numbers::number::u32_at;
 ghost use mathlib.Core.Path.{_≡_};
 ghost use Rattle.board.specs.Handles.{functionCount, isHandle};
 

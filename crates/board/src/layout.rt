@@ -1,11 +1,11 @@
 // The parts of a board that the caller lends: one name for each length and each place, and a total reader for each kind of byte and number.
-use crate::number::Width;
-use crate::number::big_at;
-use crate::number::byte_at;
-use crate::number::little_at;
+use numbers::number::Width;
+use numbers::number::big_at;
+use numbers::number::byte_at;
+use numbers::number::little_at;
 ghost use mathlib.Core.Path.{_≡_};
 ghost use Rattle.board.specs.Layout.{recordByte, maskByte, exponent, byteOrder, widths, offset, dmaOffset, entryByte, registerByte, baseRegister};
-ghost use Rattle.board.specs.Numbers.{bytes, little, big};
+ghost use Rattle.numbers.specs.Numbers.{bytes, little, big};
 
 // Functions of a board, at most.
 pub const FUNCTIONS: usize = 16;

@@ -2,6 +2,5 @@
 pub mod address;
 pub mod handle;
 pub mod layout;
-pub mod number;
 pub mod read;
 pub mod status;

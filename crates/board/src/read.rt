@@ -1,8 +1,8 @@
 // What reads hand back, of registers and of cells.
-use crate::number::Width;
 use crate::status::Status;
+use numbers::number::Width;
 ghost use mathlib.Core.Path.{_≡_};
-ghost use Rattle.board.specs.Numbers.{bytes};
+ghost use Rattle.numbers.specs.Numbers.{bytes};
 ghost use Rattle.board.specs.Reads.{refusedFast};
 
 // What a read hands back; the value of a refused one is 0.

@@ -2,16 +2,16 @@
 use access::data::fast_read_data;
 use access::data::read_data;
 use access::data::write_data;
-use access::find::Space;
 use board::address::BusAddress;
 use board::layout::CellOffsets;
 use board::layout::Header;
 use board::layout::Records;
 use board::layout::Windows;
-use board::number::Width;
 use board::read::FastRead;
 use board::read::Read;
 use board::status::Status;
+use find_window::find::Space;
+use numbers::number::Width;
 ghost use mathlib.Core.Path.{_≡_};
 ghost use Rattle.access.specs.Data.{readData, fastReadData, wrote, writeData};
 

@@ -20,14 +20,14 @@ use board::layout::Records;
 use board::layout::Registers;
 use board::layout::WINDOWS;
 use board::layout::Windows;
-use board::number::Width;
-use board::number::put_byte;
 use config::read::fast_read_config;
 use config::read::read_config;
-use config::search::Search;
-use config::search::find_pci_classcode;
-use config::search::find_pci_device;
 use config::write::write_config;
+use numbers::number::Width;
+use numbers::number::put_byte;
+use search::search::Search;
+use search::search::find_pci_classcode;
+use search::search::find_pci_device;
 use window_list::refresh::refresh;
 
 // Vendor and device, class, line and pin of a function, and the masks of command, line and base 0.

@@ -13,7 +13,7 @@ use board::layout::Records;
 use board::layout::Registers;
 use board::layout::WINDOWS;
 use board::layout::Windows;
-use board::number::put_byte;
+use numbers::number::put_byte;
 use window_list::listing::list_window;
 use window_list::refresh::refresh;
 

@@ -14,7 +14,6 @@ use access::convert::cpu_to_bus;
 use access::data::fast_read_data;
 use access::data::read_data;
 use access::data::write_data;
-use access::find::Space;
 use board::address::BusAddress;
 use board::address::CpuAddress;
 use board::layout::CellOffsets;
@@ -27,10 +26,11 @@ use board::layout::Records;
 use board::layout::Registers;
 use board::layout::WINDOWS;
 use board::layout::Windows;
-use board::number::Width;
-use board::number::reversed;
 use board::read::Read;
 use board::status::Status;
+use find_window::find::Space;
+use numbers::number::Width;
+use numbers::number::reversed;
 use window_list::refresh::refresh;
 
 // The cells of B1: 1024, 1024 and 16.

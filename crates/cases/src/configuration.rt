@@ -4,7 +4,7 @@ use crate::b1::device;
 use crate::b1::move_window;
 use crate::b1::read;
 use crate::b1::write;
-use board::number::Width;
+use numbers::number::Width;
 
 pub(crate) fn devices() {
     device(

@@ -4,8 +4,8 @@ use crate::cells::convert;
 use crate::cells::count;
 use crate::cells::data;
 use crate::cells::touch;
-use access::find::Space;
-use board::number::Width;
+use find_window::find::Space;
+use numbers::number::Width;
 
 // A read of handle 1's window in a byte order.
 fn order(row: &[u8], window: u64, width: Width, address: u32) {

@@ -17,15 +17,15 @@ use board::layout::Records;
 use board::layout::Registers;
 use board::layout::WINDOWS;
 use board::layout::Windows;
-use board::number::Width;
-use board::number::put_big;
 use libc::STDOUT_FILENO;
+use numbers::number::Width;
+use numbers::number::put_big;
 use resource::descriptor::Descriptor;
 use resource::descriptor::SIZE;
 use resource::resource::get_resource;
-use resource::step::Step;
-use resource::step::descriptor_step;
-use resource::step::position;
+use walker::step::Step;
+use walker::step::descriptor_step;
+use walker::step::position;
 ghost use Prim.Native.Nat.{_≤_};
 
 // The bytes that descriptors are stored in or walked over, at most: three descriptors.

@@ -18,7 +18,8 @@ use board::layout::Records;
 use board::layout::Registers;
 use board::layout::WINDOWS;
 use board::layout::Windows;
-use board::number::Width;
+use card_used::used::get_card_used;
+use card_used::used::set_card_used;
 use config::write::write_config;
 use interrupt::chain::hook_interrupt;
 use interrupt::chain::unhook_interrupt;
@@ -27,8 +28,7 @@ use interrupt::listing::list_chain;
 use interrupt::unsupported::get_routing;
 use interrupt::unsupported::set_interrupt;
 use interrupt::unsupported::special_cycle;
-use interrupt::used::get_card_used;
-use interrupt::used::set_card_used;
+use numbers::number::Width;
 
 // The calls of a row in one number, two hexadecimal digits a call, the first one in front: what is called and the handle. Where the eighth call from the end stands.
 const CALLS: u32 = 8;

@@ -7,11 +7,11 @@ use crate::rows::text;
 use board::address::BusAddress;
 use board::address::CpuAddress;
 use board::handle::is_handle;
-use board::number::Width;
-use board::number::big_at;
-use board::number::little_at;
-use board::number::reversed;
 use board::status::Status;
+use numbers::number::Width;
+use numbers::number::big_at;
+use numbers::number::little_at;
+use numbers::number::reversed;
 
 pub(crate) fn numbers() {
     let row = b"numbers | Each number belongs to the answer's own type as a constant.";

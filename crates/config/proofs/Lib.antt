@@ -4,4 +4,3 @@ pub mod Masks
 pub mod Written
 pub mod Moves
 pub mod Fast
-pub mod Searches

@@ -6,12 +6,12 @@ use mathlib.Core.Path.{_≡_, refl, sym, ap}
 use lib.Dec.{eqb, leb}
 use borrow.Author.Tests.{eqb-true, le-leb, leb-true}
 use Rattle.board.specs.Layout.{registersEach}
-use Rattle.board.specs.Numbers.{bytes}
+use Rattle.numbers.specs.Numbers.{bytes}
 use Rattle.board.specs.Statuses.{successful, badRegisterNumber, badHandle}
-use Rattle.board.specs.declared.number.Width.{Width}
-use Rattle.board.specs.declared.number.Width.the-variants.{Byte, Word, Long}
+use Rattle.numbers.specs.declared.number.Width.{Width}
+use Rattle.numbers.specs.declared.number.Width.the-variants.{Byte, Word, Long}
 use Rattle.board.specs.declared.status.Status.{Status}
-use Rattle.board.proofs.Tests.{both-true}
+use Rattle.numbers.proofs.Tests.{both-true}
 use Rattle.config.specs.declared.target.Target.the-variants.{Function, Refused}
 use Rattle.config.specs.Target.{fits, target}
 use Rattle.config.specs.Meaning.{InsideRegisters}

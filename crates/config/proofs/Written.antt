@@ -10,7 +10,7 @@ use lib.ListN.{length, getD, length-set}
 use lib.Seq.{getD-set-same, getD-set-other, set-getD}
 use borrow.Author.Tests.{eq-eqb, le-leb, lt-ltb, eqb-true, leb-true, ltb-true}
 use Rattle.board.specs.Layout.{registersEach, maskByte, registerByte}
-use Rattle.board.proofs.Tests.{both-true}
+use Rattle.numbers.proofs.Tests.{both-true}
 use Rattle.config.specs.Write.{written, byteWritten, bytesWritten}
 use Rattle.config.specs.Meaning.{MaskedWrite, ReadOnly}
 use Rattle.config.proofs.Masks.{kept-byte}

@@ -2,6 +2,4 @@
 pub mod Target
 pub mod Read
 pub mod Write
-pub mod Search
-pub mod Steps
 pub mod Meaning

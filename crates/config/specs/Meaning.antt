@@ -1,23 +1,22 @@
--- What configuration calls and searches mean, without the proofs.
-use Prim.Native.Nat.{ℕ, zero, suc, _+_, _-_, _*_, _/_, _%_, _^_, _<_, _≤_}
+-- What configuration calls mean, without the proofs.
+use Prim.Native.Nat.{ℕ, _+_, _-_, _*_, _/_, _%_, _^_, _<_, _≤_}
 use mathlib.Core.Bool.{Bool, true, false, cond, _&&_}
 use mathlib.Core.List.{List}
 use mathlib.Core.Logic.{_↔_}
 use mathlib.Core.Path.{_≡_}
 use lib.Dec.{eqb, leb, ltb}
 use lib.ListN.{length, getD}
+use Rattle.numbers.specs.Numbers.{bit}
 use Rattle.board.specs.Handles.{isHandle}
 use Rattle.board.specs.Layout.{registersEach, maskByte, registerByte}
-use Rattle.board.specs.Statuses.{successful, deviceNotFound}
+use Rattle.board.specs.Statuses.{successful}
 use Rattle.window_list.specs.Kept.{keptList}
 use Rattle.window_list.specs.Meaning.{Watched}
 use Rattle.window_list.specs.Windows.{windowList}
-use Rattle.config.specs.declared.search.Search.the-variants.{Found, Refused}
 use Rattle.config.specs.declared.target.Target.the-variants.{Function}
 use Rattle.config.specs.Target.{target}
 use Rattle.config.specs.Read.{readConfig, fastReadConfig}
 use Rattle.config.specs.Write.{written, bytesWritten, movesWindows, writeConfig}
-use Rattle.config.specs.Search.{bit, matching, searched}
 
 -- no accepted access passes FFh
 abbrev pub InsideRegisters : Type 0
@@ -74,17 +73,3 @@ FastRead =
     × ((fastReadConfig w header registers handle register .fault ≡ false
     → fastReadConfig w header registers handle register .value ≡ readConfig w header registers handle register .value)
     × (fastReadConfig w header registers handle register .fault ≡ true → fastReadConfig w header registers handle register .value ≡ 256 ^ w - 1))
-
--- how many of the first n places match
-unfoldable pub matchesBefore : (ℕ → Bool) → ℕ → ℕ
-matchesBefore m zero = 0
-matchesBefore m (suc n) = matchesBefore m n + cond (m n) 1 0
-
--- index n gives the match with exactly n matches before it in table order, -4 exactly if there are n or fewer matches
-pub record Indexed (m : ℕ → Bool) (count n : ℕ) : Type 0 where
-  pub found : (i : ℕ)
-      → (searched (matching m 0 count) n ≡ Found (i + 1)) ↔ ((i < count) × ((m i ≡ true) × (matchesBefore m i ≡ n)))
-  pub missing : (searched (matching m 0 count) n ≡ Refused deviceNotFound) ↔ (matchesBefore m count ≤ n)
-
-abbrev pub IndexRule : Type 0
-IndexRule = (m : ℕ → Bool) (count n : ℕ) → Indexed m count n

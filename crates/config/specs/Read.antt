@@ -3,7 +3,7 @@ use Prim.Native.Nat.{ℕ}
 use mathlib.Core.List.{List}
 use Rattle.board.specs.Handles.{isHandle}
 use Rattle.board.specs.Layout.{registerByte}
-use Rattle.board.specs.Numbers.{little}
+use Rattle.numbers.specs.Numbers.{little}
 use Rattle.board.specs.Reads.{accepted, refused, acceptedFast, refusedFast}
 use Rattle.board.specs.declared.read.Read.{Read}
 use Rattle.board.specs.declared.read.FastRead.{FastRead}

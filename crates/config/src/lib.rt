@@ -1,5 +1,4 @@
-// Configuration registers, read and written through their masks, and the two searches.
+// Configuration registers, read and written through their masks.
 pub mod read;
-pub mod search;
 pub mod target;
 pub mod write;

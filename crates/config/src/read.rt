@@ -4,13 +4,13 @@ use crate::target::target_of;
 use board::layout::Header;
 use board::layout::Registers;
 use board::layout::register_number;
-use board::number::Width;
 use board::read::FastRead;
 use board::read::Read;
 use board::read::refused_fast;
 use board::status::Status;
+use numbers::number::Width;
 ghost use mathlib.Core.Path.{_≡_};
-ghost use Rattle.board.specs.Numbers.{bytes};
+ghost use Rattle.numbers.specs.Numbers.{bytes};
 ghost use Rattle.config.specs.Read.{readConfig, fastReadConfig};
 
 // Reads a number of a width, least byte first.

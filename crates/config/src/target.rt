@@ -1,12 +1,12 @@
 // The checks of a configuration call: which function it is for.
 use board::handle::is_handle;
 use board::layout::Header;
-use board::number::Width;
-use board::number::is_multiple;
 use board::status::Status;
+use numbers::number::Width;
+use numbers::number::is_multiple;
 ghost use mathlib.Core.Path.{_≡_};
 ghost use Rattle.board.specs.Handles.{isHandle};
-ghost use Rattle.board.specs.Numbers.{bytes};
+ghost use Rattle.numbers.specs.Numbers.{bytes};
 ghost use Rattle.config.specs.Target.{fits, target};
 
 // The function at a place, from 0, or the refusal.

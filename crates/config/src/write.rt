@@ -10,15 +10,15 @@ use board::layout::Registers;
 use board::layout::Windows;
 use board::layout::mask_byte;
 use board::layout::register_byte;
-use board::number::Width;
-use board::number::bytes;
-use board::number::put_byte;
 use board::status::Status;
+use numbers::number::Width;
+use numbers::number::bytes;
+use numbers::number::put_byte;
 use window_list::refresh::refresh;
 ghost use mathlib.Core.Path.{_≡_};
 ghost use Prim.Native.Nat.{_+_, _≤_};
 ghost use Rattle.board.specs.Layout.{registersEach};
-ghost use Rattle.board.specs.Numbers.{bytes};
+ghost use Rattle.numbers.specs.Numbers.{bytes};
 ghost use Rattle.config.specs.Write.{written, byteWritten, bytesWritten, movesWindows, wrote, writeConfig};
 
 // The register after the base registers.

@@ -3,19 +3,19 @@ use Prim.Native.Nat.{ℕ}
 use mathlib.Core.Path.{_≡_, sym}
 use mathlib.Core.List.{List}
 use lib.IntN.{pos}
-use Rattle.board.specs.Numbers.{bytes}
+use Rattle.numbers.specs.Numbers.{bytes}
 use Rattle.board.specs.Parts.{Parts, withRegisters, withCells, withHooks, withUsed}
 use Rattle.board.specs.declared.address.BusAddress.{BusAddress}
-use Rattle.board.specs.declared.number.Width.{Width}
+use Rattle.numbers.specs.declared.number.Width.{Width}
 use Rattle.board.specs.declared.status.Status.{Status}
 use Rattle.window_list.specs.Listing.{numberOf, valuesOf, Lists}
 use Rattle.config.specs.Write.{wrote, writeConfig}
 use Rattle.access.specs.Data.{writeData, wrote as dataWrote}
-use Rattle.access.specs.Find.{spaceNumber}
-use Rattle.access.specs.declared.find.Space.{Space}
+use Rattle.find_window.specs.Find.{spaceNumber}
+use Rattle.find_window.specs.declared.find.Space.{Space}
 use Rattle.resource.specs.Resource.{gave, getResource}
 use Rattle.interrupt.specs.Chain.{Changed, changed}
-use Rattle.interrupt.specs.Used.{marked, setCardUsed}
+use Rattle.card_used.specs.Used.{marked, setCardUsed}
 use Rattle.load.specs.Load.{loaded, load, resetTo, reset}
 use Rattle.image.specs.Write.{written, write}
 use Rattle.image.specs.declared.check.Verdict.{Verdict}

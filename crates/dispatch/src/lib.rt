@@ -1,4 +1,2 @@
-// Every call through one function, and the answer of each kind of outcome.
-pub mod answer;
+// Every call on a board through one function.
 pub mod perform;
-pub mod searches;

@@ -9,9 +9,9 @@ use lib.Dec.{eqb}
 use lib.ListN.{set, replicate}
 use lib.Seq.{sets}
 use borrow.Author.Tests.{eqb-true, eq-eqb}
-use Rattle.board.specs.Numbers.{bigBytes}
-use Rattle.board.specs.Tables.{tableFrom}
-use Rattle.board.proofs.Tests.{both-true}
+use Rattle.numbers.specs.Numbers.{bigBytes}
+use Rattle.numbers.specs.Tables.{tableFrom}
+use Rattle.numbers.proofs.Tests.{both-true}
 use Rattle.encoding.specs.declared.fields.Fields.{Fields}
 use Rattle.encoding.specs.declared.decode.Decoded.the-variants.{Known, Malformed}
 use mir.Val.{boolByte}

@@ -9,12 +9,12 @@ use borrow.Author.Tests.{ltb-true, ltb-false}
 use Rattle.reference.specs.declared.Call.{Call}
 use Rattle.reference.specs.declared.Call.the-variants.{Load, Reset, WriteImage, FindPciDevice, FindPciClasscode, ReadConfig, FastReadConfig, WriteConfig, ReadData, FastReadData, WriteData, BusToCpu, CpuToBus, ListWindow, GetResource, HookInterrupt, UnhookInterrupt, ListChain, GetCardUsed, SetCardUsed, SpecialCycle, GetRouting, SetInterrupt}
 use Rattle.encoding.specs.declared.fields.Fields.{Fields}
-use Rattle.board.specs.Numbers.{bytes}
-use Rattle.board.specs.declared.number.Width.{Width}
-use Rattle.board.specs.declared.number.Width.the-variants.{Byte, Word, Long}
-use Rattle.access.specs.Find.{spaceNumber}
-use Rattle.access.specs.declared.find.Space.{Space}
-use Rattle.access.specs.declared.find.Space.the-variants.{Memory, Io}
+use Rattle.numbers.specs.Numbers.{bytes}
+use Rattle.numbers.specs.declared.number.Width.{Width}
+use Rattle.numbers.specs.declared.number.Width.the-variants.{Byte, Word, Long}
+use Rattle.find_window.specs.Find.{spaceNumber}
+use Rattle.find_window.specs.declared.find.Space.{Space}
+use Rattle.find_window.specs.declared.find.Space.the-variants.{Memory, Io}
 use Rattle.encoding.specs.Format.{fieldsOf, widthOf, spaceOf, calls, candidate}
 use Rattle.encoding.specs.Meaning.{U32, Holds}
 

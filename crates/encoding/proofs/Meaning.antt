@@ -5,9 +5,9 @@ use mathlib.Core.Bool.{Bool, true, false, cond}
 use mathlib.Core.List.{List, [], _∷_, _++_}
 use mathlib.Core.Path.{_≡_, refl, sym, _∙_}
 use lib.ListN.{replicate}
-use Rattle.board.specs.Numbers.{bigBytes}
-use Rattle.board.specs.Tables.{tableFrom}
-use Rattle.board.proofs.Numbers.{big-bytes}
+use Rattle.numbers.specs.Numbers.{bigBytes}
+use Rattle.numbers.specs.Tables.{tableFrom}
+use Rattle.numbers.proofs.Numbers.{big-bytes}
 use Rattle.encoding.specs.declared.decode.Decoded.the-variants.{Known, Malformed}
 use Rattle.encoding.specs.declared.fields.Fields.{Fields}
 use Rattle.encoding.specs.Format.{fields, fieldsOf, candidate, headerOf, encoded, fieldsAt, ownLength, sameBytes, decoded}

@@ -5,14 +5,14 @@ use mathlib.Core.List.{List, [], _∷_, _++_}
 use lib.Dec.{eqb}
 use lib.IntN.{ℤ, pos, negsuc}
 use lib.ListN.{getD, replicate}
-use Rattle.board.specs.Numbers.{byteAt, bytes, big, bigBytes}
+use Rattle.numbers.specs.Numbers.{byteAt, bytes, big, bigBytes}
 use Rattle.board.specs.declared.address.BusAddress.{BusAddress}
 use Rattle.board.specs.declared.address.CpuAddress.{CpuAddress}
-use Rattle.board.specs.declared.number.Width.{Width}
-use Rattle.board.specs.declared.number.Width.the-variants.{Byte, Word, Long}
-use Rattle.access.specs.Find.{spaceNumber}
-use Rattle.access.specs.declared.find.Space.{Space}
-use Rattle.access.specs.declared.find.Space.the-variants.{Memory, Io}
+use Rattle.numbers.specs.declared.number.Width.{Width}
+use Rattle.numbers.specs.declared.number.Width.the-variants.{Byte, Word, Long}
+use Rattle.find_window.specs.Find.{spaceNumber}
+use Rattle.find_window.specs.declared.find.Space.{Space}
+use Rattle.find_window.specs.declared.find.Space.the-variants.{Memory, Io}
 use Rattle.reference.specs.declared.Answer.{Answer}
 use Rattle.reference.specs.declared.Call.{Call}
 use Rattle.reference.specs.declared.Call.the-variants.{Load, Reset, WriteImage, FindPciDevice, FindPciClasscode, ReadConfig, FastReadConfig, WriteConfig, ReadData, FastReadData, WriteData, BusToCpu, CpuToBus, ListWindow, GetResource, HookInterrupt, UnhookInterrupt, ListChain, GetCardUsed, SetCardUsed, SpecialCycle, GetRouting, SetInterrupt}

@@ -1,12 +1,12 @@
 // The fields of a call's header: a row for each call, in the order of the operations' numbers.
-use access::find::Space;
 use board::address::BusAddress;
 use board::address::CpuAddress;
-use board::number::Width;
-use board::number::bytes;
+use find_window::find::Space;
+use numbers::number::Width;
+use numbers::number::bytes;
 use reference::Call;
 ghost use mathlib.Core.Path.{_≡_};
-ghost use Rattle.access.specs.Find.{spaceNumber};
+ghost use Rattle.find_window.specs.Find.{spaceNumber};
 ghost use Rattle.encoding.specs.Format.{fields, fieldsOf, candidate, widthOf, spaceOf};
 
 // The fields of a header; what a call does not have is 0.

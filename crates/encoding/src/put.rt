@@ -3,7 +3,7 @@ ghost use mathlib.Core.Path.{_≡_};
 ghost use Prim.Native.Nat.{_+_, _≤_};
 ghost use lib.ListN.{length};
 ghost use lib.Seq.{sets};
-ghost use Rattle.board.specs.Numbers.{bigBytes};
+ghost use Rattle.numbers.specs.Numbers.{bigBytes};
 
 // Stores a number of 4 bytes.
 pub(crate) fn put_long(out: &mut [u8], at: usize, v: u32)

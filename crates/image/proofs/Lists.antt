@@ -6,9 +6,9 @@ use mathlib.Core.Path.{_≡_, refl, sym, _∙_, ap}
 use mathlib.Core.List.{List, _∷_, _++_, append-nil, append-assoc}
 use lib.ListN.{length, getD, take, drop, set, length-set, length-append, length-drop, drop-of-length-le}
 use lib.Seq.{drop-cons, take-length, take-all, take-at, drop-at, length-take-le, drop-drop}
-use Rattle.board.specs.Tables.{tableFrom, table}
+use Rattle.numbers.specs.Tables.{tableFrom, table}
 use Rattle.board.specs.Layout.{windowsMax}
-use Rattle.board.proofs.Tables.{filled-more, filled-all}
+use Rattle.numbers.proofs.Tables.{filled-more, filled-all}
 use Rattle.image.specs.Image.{trailerSize, trailer}
 use Rattle.image.specs.Cells.{slotCells, cellsBefore, offsetsOf}
 

@@ -5,7 +5,7 @@ use native.Mathlib.Numerals.{add-one}
 use mathlib.Core.Path.{_≡_, refl, _∙_, ap}
 use lib.ListN.{getD}
 use Rattle.board.specs.Layout.{bases, windowsMax}
-use Rattle.board.proofs.Tables.{table-get}
+use Rattle.numbers.proofs.Tables.{table-get}
 use Rattle.image.specs.Cells.{slotCells, cellsBefore, offsetsOf}
 use Rattle.image.specs.Meaning.{CellRanges}
 

@@ -4,7 +4,7 @@ use mathlib.Core.Bool.{_&&_, cond}
 use mathlib.Core.List.{List, _++_}
 use lib.Dec.{leb}
 use lib.ListN.{drop, replicate}
-use Rattle.board.specs.Tables.{table}
+use Rattle.numbers.specs.Tables.{table}
 use Rattle.board.specs.Layout.{bases, windowsMax}
 
 -- the cells of a window of length exponent k: an exponent outside 2..16 is no window

@@ -2,7 +2,7 @@
 use Prim.Native.Nat.{ℕ, _+_, _-_, _*_}
 use mathlib.Core.List.{List, [], _∷_, _++_}
 use lib.ListN.{length, take, drop}
-use Rattle.board.specs.Numbers.{byteAt, big, bigBytes}
+use Rattle.numbers.specs.Numbers.{byteAt, big, bigBytes}
 use Rattle.board.specs.Layout.{recordSize}
 
 abbrev pub trailerSize : ℕ

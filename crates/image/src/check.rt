@@ -2,9 +2,9 @@
 use crate::cells::total_of;
 use board::layout::FUNCTIONS;
 use board::layout::RECORD;
-use board::number::Width;
-use board::number::big_at;
-use board::number::wide;
+use numbers::number::Width;
+use numbers::number::big_at;
+use numbers::number::wide;
 use record::rules::record_ok;
 ghost use mathlib.Core.Path.{_≡_};
 ghost use Prim.Native.Nat.{_*_, _<_, _≤_};

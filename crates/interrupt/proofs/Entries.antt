@@ -9,7 +9,7 @@ use lib.Dec.{eqb}
 use lib.ListN.{getD}
 use borrow.Author.Tests.{eqb-true, eqb-false}
 use Rattle.board.specs.Layout.{functionsMax, hookSize}
-use Rattle.board.proofs.Tables.{table-get}
+use Rattle.numbers.proofs.Tables.{table-get}
 use Rattle.interrupt.specs.Hooks.{Hook, hookAt, entriesFrom, numberOf, numberAt, arrayOf, chosen}
 
 -- number j of an array is the number of its entries there

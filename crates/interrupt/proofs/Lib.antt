@@ -8,4 +8,3 @@ pub mod Unhooking
 pub mod Packed
 pub mod Repacked
 pub mod Room
-pub mod Marks

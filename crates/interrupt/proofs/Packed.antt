@@ -10,7 +10,7 @@ use lib.ListN.{length, getD, replicate, length-append, length-replicate, List·g
 use lib.Seq.{getD-append-add, ext-getD}
 use borrow.Author.Tests.{ne-eqb, lt-ltb, le-ltb}
 use Rattle.board.specs.Layout.{functionsMax, hookSize}
-use Rattle.board.proofs.Tables.{table-length, table-get}
+use Rattle.numbers.proofs.Tables.{table-length, table-get}
 use Rattle.interrupt.specs.Hooks.{Hook, noHook, hookAt, entriesFrom, entries, numberAt, arrayOf, lineOf, chosen, onLine, chainOf, numbers, packed}
 use Rattle.interrupt.specs.Chain.{firstFrom, isHooked, isFree}
 use Rattle.interrupt.specs.Meaning.{Every, isAmong}

@@ -7,7 +7,7 @@ use mathlib.Core.Path.{_≡_, refl}
 use lib.Dec.{eqb}
 use lib.ListN.{length}
 use borrow.Author.Tests.{eqb-true, eqb-false}
-use Rattle.board.proofs.Tests.{either-false}
+use Rattle.numbers.proofs.Tests.{either-false}
 use Rattle.interrupt.specs.Hooks.{Hook, hook}
 use Rattle.interrupt.specs.Meaning.{Every, isAmong, without}
 

@@ -5,7 +5,7 @@ use mathlib.Core.List.{List, [], _∷_}
 use lib.Dec.{eqb}
 use lib.ListN.{getD}
 use Rattle.board.specs.Layout.{functionsMax, hookSize, recordByte}
-use Rattle.board.specs.Tables.{table, filledUp}
+use Rattle.numbers.specs.Tables.{table, filledUp}
 
 pub record Hook : Type 0 where
   pub handle : ℕ

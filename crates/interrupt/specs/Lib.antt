@@ -2,7 +2,6 @@
 pub mod Hooks
 pub mod Chain
 pub mod Listing
-pub mod Used
 pub mod Unsupported
 pub mod Steps
 pub mod Meaning

@@ -1,4 +1,4 @@
--- What hooking, unhooking, the chain listing and the marks mean, without the proofs.
+-- What hooking, unhooking and the chain listing mean, without the proofs.
 use Prim.Native.Nat.{ℕ, _+_, _*_, _<_, _≤_}
 use mathlib.Core.Bool.{Bool, false, cond, _||_}
 use mathlib.Core.List.{List, [], _∷_, _++_}
@@ -6,13 +6,12 @@ use mathlib.Core.Logic.{_↔_}
 use mathlib.Core.Path.{_≡_}
 use lib.Dec.{eqb}
 use lib.ListN.{length}
-use Rattle.board.specs.Layout.{functionsMax, hookSize, markSize}
+use Rattle.board.specs.Layout.{functionsMax, hookSize}
 use Rattle.board.specs.Statuses.{successful, deviceNotFound}
 use Rattle.interrupt.specs.declared.listing.ChainListing.the-variants.{Refused}
 use Rattle.interrupt.specs.Hooks.{Hook, hook, lineOf, lastLine, chainOf}
 use Rattle.interrupt.specs.Chain.{hookInterrupt, unhookInterrupt}
 use Rattle.interrupt.specs.Listing.{found, chainListing}
-use Rattle.interrupt.specs.Used.{Mark, markAt, markPut}
 
 -- every hook of a list has a property
 abbrev pub Every : (Hook → Type 0) → List Hook → Type 0
@@ -52,9 +51,3 @@ pub record Placed (chain : List Hook) (line : ℕ) : Type 0 where
 
 abbrev pub ChainPlaces : Type 0
 ChainPlaces = (chain : List Hook) (line : ℕ) → line ≤ lastLine → Placed chain line
-
--- a mark that is set is its function's, and every other function keeps its own
-abbrev pub OneMark : Type 0
-OneMark =
-    (used : List ℕ) (i j : ℕ) (m : Mark) → markSize * i + 1 < length used
-    → markAt (markPut used i m) j ≡ cond (eqb j i) m (markAt used j)

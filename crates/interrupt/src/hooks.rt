@@ -4,7 +4,7 @@ use board::layout::HOOK;
 use board::layout::Hooks;
 use board::layout::Records;
 use board::layout::record_byte;
-use board::number::u32_at;
+use numbers::number::u32_at;
 ghost use mathlib.Core.Path.{_≡_};
 ghost use Prim.Native.Nat.{_≤_};
 ghost use Rattle.interrupt.specs.Hooks.{hookAt, lineOf, pinOf, onLine};

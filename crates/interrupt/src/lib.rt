@@ -1,6 +1,5 @@
-// Interrupt chains, card-used marks, and the calls that this board does not support.
+// Interrupt chains, and the calls that this board does not support.
 pub mod chain;
 pub mod hooks;
 pub mod listing;
 pub mod unsupported;
-pub mod used;

@@ -9,12 +9,12 @@ use lib.Dec.{eqb}
 use lib.ListN.{length, take, drop, length-append, drop-of-length-le, take-append-drop}
 use lib.Seq.{take-at, drop-drop}
 use borrow.Author.Tests.{eq-eqb, ne-eqb, le-ltb}
-use Rattle.board.specs.Numbers.{byteAt, bigBytes, big}
+use Rattle.numbers.specs.Numbers.{byteAt, bigBytes, big}
 use Rattle.board.specs.Layout.{functionsMax, recordSize, exponent}
 use Rattle.board.specs.Parts.{Parts}
 use Rattle.board.specs.Handles.{functionCount}
-use Rattle.board.proofs.Numbers.{big-below, big-bytes, bytes-big}
-use Rattle.board.proofs.Tables.{table-length}
+use Rattle.numbers.proofs.Numbers.{big-below, big-bytes, bytes-big}
+use Rattle.numbers.proofs.Tables.{table-length}
 use Rattle.image.specs.Cells.{total, offsetsOf}
 use Rattle.image.specs.Image.{imageSize, back, distanceOf, countOf, editionOf, sumOf, recordsOf, sum, trailer}
 use Rattle.image.specs.Refusals.{accepted}

@@ -6,7 +6,7 @@ use lib.Dec.{ltb, eqb}
 use lib.ListN.{length, getD, replicate}
 use Rattle.board.specs.Statuses.{successful, bufferTooSmall}
 use Rattle.board.specs.declared.status.Status.{Status}
-use Rattle.board.specs.Tables.{table, filledUp}
+use Rattle.numbers.specs.Tables.{table, filledUp}
 use Rattle.board.specs.Parts.{Parts, parts}
 use Rattle.board.specs.Layout.{functionsMax, recordSize, registersEach, hookSize, markSize, windowsMax, recordByte, exponent}
 use Rattle.window_list.specs.Windows.{windowList}

@@ -3,7 +3,7 @@ use Prim.Native.Nat.{ℕ, _<_}
 use mathlib.Core.List.{List}
 use mathlib.Core.Path.{_≡_}
 use lib.ListN.{length}
-use Rattle.board.specs.Numbers.{byteAt}
+use Rattle.numbers.specs.Numbers.{byteAt}
 use Rattle.board.specs.Parts.{Parts}
 use Rattle.image.specs.Image.{imageSize, countOf}
 use Rattle.image.specs.Refusals.{accepted}

@@ -1,17 +1,18 @@
 -- The proved cases, worked out from the bytes of B1's image.
 use mathlib.Core.Path.{refl}
-use Rattle.board.specs.Numbers.{little, big, reversed}
-use Rattle.board.specs.Tables.{tableFrom}
+use Rattle.numbers.specs.Numbers.{little, big, reversed}
+use Rattle.numbers.specs.Tables.{tableFrom}
 use Rattle.window_list.specs.Windows.{windowAt, gather, openWindows, put, putAll, listOf}
 use Rattle.window_list.specs.Listing.{listedNumber, listedValues}
 use Rattle.config.specs.Target.{target}
-use Rattle.config.specs.Search.{matching, searchNumber}
-use Rattle.access.specs.Find.{inList, find}
+use Rattle.search.specs.Search.{matching, searchNumber}
+use Rattle.find_window.specs.Find.{inList, find}
 use Rattle.resource.specs.Descriptor.{descriptorBytes, bytesOf}
 use Rattle.resource.specs.Resource.{windowsFrom, startIn, described, resource}
 use Rattle.interrupt.specs.Listing.{placeNumber, placeValues}
 use Rattle.interrupt.specs.Meaning.{isAmong}
-use Rattle.record.specs.Record.{entryOk, recordOk}
+use Rattle.window_entry.specs.Entry.{entryOk}
+use Rattle.record.specs.Record.{recordOk}
 use Rattle.image.specs.Cells.{cellsBefore}
 use Rattle.image.specs.Image.{sum}
 use Rattle.image.specs.Refusals.{firstBad, firstRefusal}

@@ -4,12 +4,12 @@ use mathlib.Core.List.{List, [], _∷_, _++_, map}
 use mathlib.Core.Path.{_≡_}
 use lib.IntN.{pos}
 use lib.ListN.{length, replicate}
-use Rattle.board.specs.Numbers.{bigBytes}
+use Rattle.numbers.specs.Numbers.{bigBytes}
 use Rattle.board.specs.Statuses.{successful, deviceNotFound, generalError}
-use Rattle.board.specs.declared.number.Width.the-variants.{Byte, Long}
+use Rattle.numbers.specs.declared.number.Width.the-variants.{Byte, Long}
 use Rattle.access.specs.Cells.{valueAt}
 use Rattle.access.specs.Orders.{placed}
-use Rattle.access.specs.declared.find.Space.the-variants.{Memory}
+use Rattle.find_window.specs.declared.find.Space.the-variants.{Memory}
 use Rattle.reference.specs.declared.Answer.{Answer}
 use Rattle.reference.specs.declared.Call.{Call}
 use Rattle.reference.specs.declared.Call.the-variants.{Load, FindPciDevice, FindPciClasscode, ReadConfig, WriteConfig, WriteData, GetResource, HookInterrupt, ListChain, ListWindow}

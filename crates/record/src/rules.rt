@@ -1,20 +1,20 @@
 // The rules of a record.
-use crate::entry::Entry;
-use crate::entry::entry_ok;
 use board::layout::BASE_0;
 use board::layout::ENTRIES;
 use board::layout::ENTRY;
 use board::layout::MASKS;
 use board::layout::OFFSET;
-use board::number::Width;
-use board::number::big_at;
-use board::number::byte_at;
-use board::number::little_at;
+use numbers::number::Width;
+use numbers::number::big_at;
+use numbers::number::byte_at;
+use numbers::number::little_at;
+use window_entry::entry::Entry;
+use window_entry::entry::entry_ok;
 ghost use mathlib.Core.Path.{_≡_};
 ghost use mathlib.Core.Bool.{_&&_};
 ghost use Prim.Native.Nat.{_<_};
 ghost use Rattle.board.specs.Layout.{bases};
-ghost use Rattle.board.specs.Numbers.{bytes};
+ghost use Rattle.numbers.specs.Numbers.{bytes};
 ghost use Rattle.record.specs.Record.{maskAt, vendorOk, headerTypeOk, pinOk, masksOk, romOk, entryAt, entriesOk, offsetOk, recordOk};
 
 // Vendor, header type and pin.

@@ -10,8 +10,8 @@ use lib.Dec.{leb, ltb}
 use lib.ListN.{length, getD, drop, length-append, length-drop}
 use lib.Seq.{getD-append-add, getD-drop}
 use borrow.Author.Tests.{ltb-false, leb-false}
-use Rattle.board.specs.Tables.{tableFrom, table}
-use Rattle.board.proofs.Tables.{table-length}
+use Rattle.numbers.specs.Tables.{tableFrom, table}
+use Rattle.numbers.proofs.Tables.{table-length}
 use Rattle.access.specs.Cells.{cellsAfter}
 use Rattle.access.specs.declared.place.Place.the-variants.{At}
 use Rattle.access.proofs.Cells.{only-its-cells}

@@ -7,7 +7,7 @@ use mathlib.Core.Path.{_≡_, refl, sym, _∙_, ap}
 use lib.Dec.{eqb, leb}
 use lib.ListN.{length}
 use borrow.Author.Tests.{ne-eqb, eqb-true, leb-true, leb-false}
-use Rattle.board.specs.Numbers.{byteAt}
+use Rattle.numbers.specs.Numbers.{byteAt}
 use Rattle.interrupt.specs.Hooks.{Hook, hook, lastLine}
 use Rattle.interrupt.specs.Meaning.{Every, isAmong, without}
 use Rattle.interrupt.proofs.Packed.{every-map}

@@ -6,7 +6,7 @@ use mathlib.Core.Path.{_≡_, refl, _∙_, ap}
 use lib.Dec.{leb, ltb}
 use borrow.Author.Tests.{leb-true, ltb-false, not-true}
 use Rattle.board.specs.Parts.{withHooks}
-use Rattle.board.proofs.Tests.{both-true}
+use Rattle.numbers.proofs.Tests.{both-true}
 use Rattle.interrupt.specs.Hooks.{Hook, hook, lineOf, pinOf, lastLine, chainOf, packed}
 use Rattle.interrupt.specs.Chain.{isRouted, Changed}
 use Rattle.interrupt.specs.Listing.{listed, chainListing, chainNumberOf, chainValuesOf}

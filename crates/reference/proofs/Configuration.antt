@@ -5,7 +5,7 @@ use mathlib.Core.Bool.{Bool}
 use mathlib.Core.Path.{_≡_, refl, sym, ap}
 use mathlib.Core.List.{List}
 use lib.ListN.{length}
-use Rattle.board.specs.declared.number.Width.{Width}
+use Rattle.numbers.specs.declared.number.Width.{Width}
 use Rattle.board.specs.Handles.{isHandle}
 use Rattle.board.specs.Layout.{registersEach, registerByte}
 use Rattle.board.specs.Parts.{withRegisters}
@@ -14,10 +14,10 @@ use Rattle.window_list.specs.Kept.{keptList}
 use Rattle.config.specs.Target.{target}
 use Rattle.config.specs.Read.{readOf, fastReadOf}
 use Rattle.config.specs.Write.{Wrote, writeTo}
-use Rattle.config.specs.Search.{deviceMatches, classMatches, matching, searched, foundNumber, searchNumber}
+use Rattle.search.specs.Search.{deviceMatches, classMatches, matching, searched, foundNumber, searchNumber}
 use Rattle.config.specs.declared.target.Target.{Target}
 use Rattle.config.proofs.Moves.{list-follows}
-use Rattle.config.proofs.Searches.{search-number, matching-same, device-same, class-same}
+use Rattle.search.proofs.Searches.{search-number, matching-same, device-same, class-same}
 use Rattle.reference.specs.declared.Call.the-variants.{FindPciDevice, FindPciClasscode, ReadConfig, FastReadConfig, WriteConfig}
 use Rattle.reference.specs.Answers.{ofStatus, ofSearch}
 use Rattle.reference.specs.State.{next, step}

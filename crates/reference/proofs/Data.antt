@@ -8,19 +8,19 @@ use lib.ListN.{length, getD}
 use lib.Seq.{length-sets}
 use borrow.Author.Tests.{le-ltb}
 use Rattle.board.specs.Layout.{bases, windowsMax, entriesAt, entrySize, offsetAt, byteOrder, widths}
-use Rattle.board.specs.Numbers.{bytes}
+use Rattle.numbers.specs.Numbers.{bytes}
 use Rattle.board.specs.declared.address.BusAddress.{BusAddress}
 use Rattle.board.specs.declared.address.CpuAddress.{CpuAddress}
-use Rattle.board.specs.declared.number.Width.{Width}
+use Rattle.numbers.specs.declared.number.Width.{Width}
 use Rattle.window_list.specs.Windows.{Window}
 use Rattle.window_list.proofs.KeptArray.{kept-of}
 use Rattle.access.specs.Cells.{placeOf, dataPlace}
-use Rattle.access.specs.Find.{spaceNumber, holds, offers, inList, find, findIn}
+use Rattle.find_window.specs.Find.{spaceNumber, holds, offers, inList, find, findIn}
 use Rattle.access.specs.Orders.{placed}
-use Rattle.access.specs.declared.find.Finding.{Finding}
-use Rattle.access.specs.declared.find.Finding.the-variants.{Found, BadHandle, ShortCells, NotAligned, Nothing, Contested, WidthMissing}
-use Rattle.access.specs.declared.find.Space.{Space}
-use Rattle.access.proofs.Searches.{held}
+use Rattle.find_window.specs.declared.find.Finding.{Finding}
+use Rattle.find_window.specs.declared.find.Finding.the-variants.{Found, BadHandle, ShortCells, NotAligned, Nothing, Contested, WidthMissing}
+use Rattle.find_window.specs.declared.find.Space.{Space}
+use Rattle.find_window.proofs.Searches.{held}
 use Rattle.image.specs.Cells.{offsetsOf}
 use Rattle.load.specs.Load.{padded}
 use Rattle.image.proofs.Ranges.{offset-at, cell-ranges}

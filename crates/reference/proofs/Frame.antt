@@ -9,9 +9,9 @@ use lib.ListN.{length, length-append}
 use borrow.Author.Tests.{ltb-false}
 use Rattle.board.specs.Parts.{Parts}
 use Rattle.board.specs.Layout.{functionsMax, registersEach, markSize}
-use Rattle.board.specs.Numbers.{bytes}
+use Rattle.numbers.specs.Numbers.{bytes}
 use Rattle.config.specs.Write.{movesWindows}
-use Rattle.access.specs.Find.{spaceNumber}
+use Rattle.find_window.specs.Find.{spaceNumber}
 use Rattle.image.specs.Cells.{total}
 use Rattle.image.specs.Image.{imageSize, sum, trailer}
 use Rattle.image.proofs.Lists.{trailer-length}

@@ -9,20 +9,21 @@ use lib.ListN.{length}
 use lib.Pow.{split}
 use borrow.Author.Tests.{leb-true}
 use Rattle.board.specs.Layout.{bases, command}
-use Rattle.board.specs.Numbers.{bytes}
-use Rattle.board.specs.declared.number.Width.{Width}
-use Rattle.board.specs.declared.number.Width.the-variants.{Byte, Word, Long}
-use Rattle.board.proofs.Numbers.{power-fours}
-use Rattle.board.proofs.Tests.{both-true}
+use Rattle.numbers.specs.Numbers.{bytes}
+use Rattle.numbers.specs.declared.number.Width.{Width}
+use Rattle.numbers.specs.declared.number.Width.the-variants.{Byte, Word, Long}
+use Rattle.numbers.proofs.Numbers.{power-fours}
+use Rattle.numbers.proofs.Tests.{both-true}
 use Rattle.window_list.specs.Windows.{Window, startOf, isOpen}
 use Rattle.window_list.specs.Meaning.{OpenAt}
 use Rattle.window_list.proofs.Meaning.{means}
 use Rattle.access.specs.Orders.{placed}
-use Rattle.access.specs.declared.find.Finding.{Finding}
-use Rattle.access.specs.declared.find.Finding.the-variants.{Found, BadHandle, ShortCells, NotAligned, Nothing, Contested, WidthMissing}
+use Rattle.find_window.specs.declared.find.Finding.{Finding}
+use Rattle.find_window.specs.declared.find.Finding.the-variants.{Found, BadHandle, ShortCells, NotAligned, Nothing, Contested, WidthMissing}
 use Rattle.access.specs.declared.place.Place.the-variants.{At}
-use Rattle.access.proofs.Searches.{Held, held}
-use Rattle.access.proofs.Windows.{found-means, inside-window}
+use Rattle.find_window.proofs.Searches.{Held, held}
+use Rattle.find_window.proofs.Meaning.{found-means}
+use Rattle.access.proofs.Windows.{inside-window}
 use Rattle.image.specs.Cells.{cellCount, slotCells, cellsBefore}
 use Rattle.reference.specs.Reference.{Reference, entryOf, exponentOf, windowsOf, findFor, placeIn, placeFor}
 

@@ -9,8 +9,8 @@ use lib.ListN.{length, getD, set, drop, replicate, length-append, length-replica
 use lib.Seq.{sets, length-sets}
 use borrow.Author.Tests.{ltb-true, ltb-false}
 use Rattle.board.specs.Layout.{functionsMax, bases, windowsMax}
-use Rattle.board.specs.Numbers.{byteAt, bigBytes}
-use Rattle.board.proofs.Numbers.{big-same}
+use Rattle.numbers.specs.Numbers.{byteAt, bigBytes}
+use Rattle.numbers.proofs.Numbers.{big-same}
 use Rattle.access.specs.Cells.{valueAt, cellsAfter}
 use Rattle.access.specs.Orders.{ordered}
 use Rattle.access.proofs.Cells.{only-its-cells}

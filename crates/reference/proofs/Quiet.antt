@@ -4,8 +4,8 @@ use mathlib.Core.Bool.{true, false≢true}
 use mathlib.Core.Path.{_≡_, refl}
 use mathlib.Core.List.{List}
 use borrow.Author.Tests.{eqb-true}
-use Rattle.board.specs.Numbers.{bytes}
-use Rattle.access.specs.Find.{spaceNumber}
+use Rattle.numbers.specs.Numbers.{bytes}
+use Rattle.find_window.specs.Find.{spaceNumber}
 use Rattle.access.specs.declared.place.Place.{Place}
 use Rattle.access.specs.declared.place.Place.the-variants.{At, Refused as NoPlace}
 use Rattle.reference.specs.declared.Call.{Call}

@@ -5,7 +5,7 @@ use mathlib.Core.Path.{_≡_, refl, sym, _∙_, ap}
 use mathlib.Core.List.{List, [], _∷_, _++_}
 use lib.ListN.{length, take, drop, length-append, length-drop, List·getD-append, List·getD-eq-default, take-append-drop}
 use lib.Seq.{getD-append-add, getD-take, getD-drop, drop-drop, length-take-le}
-use Rattle.board.specs.Numbers.{byteAt}
+use Rattle.numbers.specs.Numbers.{byteAt}
 use Rattle.board.specs.Layout.{recordSize, recordByte}
 use Rattle.image.specs.Image.{recordAt}
 use Rattle.image.specs.Refusals.{firstBad}

@@ -9,9 +9,9 @@ use lib.ListN.{length, getD}
 use Rattle.board.specs.Parts.{Parts, withRegisters}
 use Rattle.board.specs.Layout.{windowsMax}
 use Rattle.board.specs.declared.address.BusAddress.{BusAddress}
-use Rattle.board.specs.declared.number.Width.{Width}
+use Rattle.numbers.specs.declared.number.Width.{Width}
 use Rattle.board.specs.declared.status.Status.{Status}
-use Rattle.board.specs.Numbers.{bytes}
+use Rattle.numbers.specs.Numbers.{bytes}
 use Rattle.board.specs.Statuses.{deviceNotFound, badRegisterNumber, badHandle}
 use Rattle.board.specs.Handles.{functionCount, isHandle}
 use Rattle.window_list.specs.Windows.{Window}
@@ -21,12 +21,12 @@ use Rattle.config.specs.Target.{target}
 use Rattle.config.specs.declared.target.Target.{Target}
 use Rattle.config.specs.declared.target.Target.the-variants.{Function, Refused}
 use Rattle.config.specs.Write.{writeConfig}
-use Rattle.config.specs.Search.{searched, foundNumber}
+use Rattle.search.specs.Search.{searched, foundNumber}
 use Rattle.access.specs.Cells.{placeOf, dataPlace}
-use Rattle.access.specs.Find.{spaceNumber}
-use Rattle.access.specs.declared.find.Finding.{Finding}
-use Rattle.access.specs.declared.find.Finding.the-variants.{Found, BadHandle, ShortCells, NotAligned, Nothing, Contested, WidthMissing}
-use Rattle.access.specs.declared.find.Space.{Space}
+use Rattle.find_window.specs.Find.{spaceNumber}
+use Rattle.find_window.specs.declared.find.Finding.{Finding}
+use Rattle.find_window.specs.declared.find.Finding.the-variants.{Found, BadHandle, ShortCells, NotAligned, Nothing, Contested, WidthMissing}
+use Rattle.find_window.specs.declared.find.Space.{Space}
 use Rattle.access.specs.declared.place.Place.{Place}
 use Rattle.access.specs.declared.place.Place.the-variants.{At, Refused as NoPlace}
 use Rattle.image.specs.Image.{imageSize}

@@ -13,9 +13,9 @@ use Rattle.resource.specs.Resource.{Gave, windowBases, resource, sourceOf}
 use Rattle.interrupt.specs.Hooks.{Hook, lineOf, pinOf, lastLine, chainOf}
 use Rattle.interrupt.specs.Chain.{Changed, isRouted, isHooked, isFree}
 use Rattle.interrupt.specs.Listing.{listed, chainNumberOf, chainValuesOf}
-use Rattle.interrupt.specs.Used.{Marked}
+use Rattle.card_used.specs.Used.{Marked}
 use Rattle.interrupt.specs.declared.listing.ChainListing.{ChainListing}
-use Rattle.interrupt.specs.declared.used.CardUsed.{CardUsed}
+use Rattle.card_used.specs.declared.used.CardUsed.{CardUsed}
 use Rattle.reference.specs.declared.Answer.{Answer}
 use Rattle.reference.specs.declared.Call.{Call}
 use Rattle.reference.specs.declared.Call.the-variants.{GetResource, HookInterrupt, UnhookInterrupt, ListChain, GetCardUsed, SetCardUsed}

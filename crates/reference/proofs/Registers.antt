@@ -7,11 +7,11 @@ use mathlib.Core.Path.{_≡_, sym, _∙_, ap}
 use mathlib.Core.List.{List, [], _∷_}
 use lib.ListN.{length}
 use lib.Seq.{ext-getD}
-use Rattle.board.specs.Numbers.{byteAt, little, big}
-use Rattle.board.specs.Tables.{table}
+use Rattle.numbers.specs.Numbers.{byteAt, little, big}
+use Rattle.numbers.specs.Tables.{table}
 use Rattle.board.specs.Layout.{functionsMax, bases, recordSize, masksAt, entriesAt, entrySize, registersEach, recordByte, exponent, registerByte}
-use Rattle.board.proofs.Numbers.{little-same, big-same}
-use Rattle.board.proofs.Tables.{table-length, table-get}
+use Rattle.numbers.proofs.Numbers.{little-same, big-same}
+use Rattle.numbers.proofs.Tables.{table-length, table-get}
 use Rattle.window_list.specs.Windows.{listOf, windowList}
 use Rattle.window_list.proofs.Meaning.{list-same}
 use Rattle.config.specs.Write.{bytesWritten}

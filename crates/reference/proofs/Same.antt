@@ -8,12 +8,12 @@ use mathlib.Core.List.{List, [], _∷_}
 use lib.Dec.{eqb}
 use lib.ListN.{length, drop, replicate, length-take}
 use borrow.Author.Tests.{eqb-true}
-use Rattle.board.specs.Numbers.{byteAt}
-use Rattle.board.specs.Tables.{tableFrom}
+use Rattle.numbers.specs.Numbers.{byteAt}
+use Rattle.numbers.specs.Tables.{tableFrom}
 use Rattle.board.specs.Layout.{functionsMax, bases, windowsMax, recordSize, entriesAt, entrySize, registersEach, hookSize, markSize, exponent}
-use Rattle.board.proofs.Tables.{table-same}
+use Rattle.numbers.proofs.Tables.{table-same}
 use Rattle.interrupt.specs.Hooks.{lastLine, numbers, packed}
-use Rattle.interrupt.specs.Used.{marksOf}
+use Rattle.card_used.specs.Used.{marksOf}
 use Rattle.image.specs.Cells.{total, cellsBefore, offsetsOf}
 use Rattle.image.specs.Image.{imageSize, countOf, recordsOf, recordAt}
 use Rattle.image.specs.Check.{factsOf, checked}

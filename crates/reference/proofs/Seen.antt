@@ -7,19 +7,19 @@ use lib.Dec.{eqb, leb, ltb}
 use lib.ListN.{length}
 use borrow.Author.Tests.{eqb-false}
 use Rattle.board.specs.Layout.{functionsMax}
-use Rattle.board.specs.Numbers.{bytes}
+use Rattle.numbers.specs.Numbers.{bytes}
 use Rattle.config.specs.declared.target.Target.{Target}
 use Rattle.config.specs.declared.target.Target.the-variants.{Function, Refused}
 use Rattle.access.specs.Data.{readAt, fastReadAt}
-use Rattle.access.specs.Find.{spaceNumber}
-use Rattle.access.specs.declared.find.Finding.{Finding}
-use Rattle.access.specs.declared.find.Finding.the-variants.{Found, BadHandle, ShortCells, NotAligned, Nothing, Contested, WidthMissing}
+use Rattle.find_window.specs.Find.{spaceNumber}
+use Rattle.find_window.specs.declared.find.Finding.{Finding}
+use Rattle.find_window.specs.declared.find.Finding.the-variants.{Found, BadHandle, ShortCells, NotAligned, Nothing, Contested, WidthMissing}
 use Rattle.access.specs.declared.place.Place.{Place}
 use Rattle.access.specs.declared.place.Place.the-variants.{At, Refused as NoPlace}
 use Rattle.interrupt.specs.Hooks.{Hook}
 use Rattle.interrupt.specs.Chain.{isRouted}
 use Rattle.interrupt.specs.Meaning.{isAmong}
-use Rattle.interrupt.specs.Used.{Mark}
+use Rattle.card_used.specs.Used.{Mark}
 use Rattle.image.specs.Cells.{total}
 use Rattle.image.specs.Image.{imageSize}
 use Rattle.reference.specs.declared.Answer.{Answer}

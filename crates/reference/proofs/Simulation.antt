@@ -6,9 +6,9 @@ use mathlib.Core.List.{List, [], _++_}
 use lib.Dec.{ltb, eqb}
 use lib.ListN.{length, replicate, drop}
 use lib.Seq.{take-at}
-use Rattle.board.specs.Tables.{tableFrom}
+use Rattle.numbers.specs.Tables.{tableFrom}
 use Rattle.board.specs.Layout.{functionsMax, recordSize, registersEach, windowsMax}
-use Rattle.board.proofs.Tables.{table-constant}
+use Rattle.numbers.proofs.Tables.{table-constant}
 use Rattle.window_list.specs.Windows.{gather, openWindows, putAll, listOf}
 use Rattle.window_list.specs.Kept.{keptList}
 use Rattle.window_list.proofs.KeptArray.{kept-of}

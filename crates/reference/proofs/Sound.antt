@@ -9,7 +9,7 @@ use lib.ListN.{length}
 use borrow.Author.Tests.{leb-true}
 use Rattle.board.specs.Handles.{isHandle}
 use Rattle.board.specs.Layout.{functionsMax}
-use Rattle.board.proofs.Tests.{both-true}
+use Rattle.numbers.proofs.Tests.{both-true}
 use Rattle.image.specs.Cells.{total}
 use Rattle.reference.specs.declared.Answer.{Answer}
 use Rattle.reference.specs.declared.Call.{Call}

@@ -11,14 +11,14 @@ use lib.ListN.{length}
 use lib.Seq.{sets, length-sets}
 use borrow.Author.Tests.{ltb-false, ne-eqb, eqb-false}
 use Rattle.board.specs.Layout.{functionsMax, markSize}
-use Rattle.board.proofs.Stores.{sets-other}
+use Rattle.numbers.proofs.Stores.{sets-other}
 use Rattle.resource.specs.Descriptor.{size, bytesOf}
 use Rattle.resource.specs.Resource.{Gave, windowBases, descriptors, resource}
 use Rattle.resource.proofs.Shows.{described-size}
 use Rattle.interrupt.specs.Hooks.{Hook}
 use Rattle.interrupt.specs.Chain.{isRouted}
 use Rattle.interrupt.specs.Meaning.{isAmong}
-use Rattle.interrupt.specs.Used.{Mark, markNumber}
+use Rattle.card_used.specs.Used.{Mark, markNumber}
 use Rattle.reference.specs.declared.Answer.{Answer}
 use Rattle.reference.specs.declared.Call.the-variants.{GetResource, HookInterrupt, UnhookInterrupt, SetCardUsed}
 use Rattle.reference.specs.Answers.{ofStatus}

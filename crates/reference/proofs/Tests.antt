@@ -8,7 +8,7 @@ use borrow.Author.Tests.{leb-true}
 use Rattle.board.specs.Layout.{registersEach}
 use Rattle.board.specs.Statuses.{badRegisterNumber, badHandle}
 use Rattle.board.specs.declared.status.Status.{Status}
-use Rattle.board.proofs.Tests.{both-true}
+use Rattle.numbers.proofs.Tests.{both-true}
 use Rattle.config.specs.Target.{fits, target}
 use Rattle.config.specs.declared.target.Target.{Target}
 use Rattle.config.specs.declared.target.Target.the-variants.{Function, Refused}

@@ -7,9 +7,9 @@ use mathlib.Core.Path.{_≡_, refl, ap}
 use lib.Dec.{leb}
 use Rattle.board.specs.Layout.{functionsMax}
 use Rattle.board.specs.Parts.{withUsed}
-use Rattle.interrupt.specs.Used.{newMark, usedOf, Marked}
-use Rattle.interrupt.specs.declared.used.CardUsed.{CardUsed}
-use Rattle.interrupt.proofs.Marks.{marks-at, marks-put}
+use Rattle.card_used.specs.Used.{newMark, usedOf, Marked}
+use Rattle.card_used.specs.declared.used.CardUsed.{CardUsed}
+use Rattle.card_used.proofs.Marks.{marks-at, marks-put}
 use Rattle.reference.specs.declared.Call.the-variants.{GetCardUsed, SetCardUsed}
 use Rattle.reference.specs.Answers.{ofStatus, ofUsed}
 use Rattle.reference.specs.State.{next, step}

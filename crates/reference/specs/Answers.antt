@@ -9,7 +9,7 @@ use Rattle.board.specs.declared.read.Read.{Read}
 use Rattle.board.specs.declared.read.FastRead.{FastRead}
 use Rattle.access.specs.declared.convert.ToBus.{ToBus}
 use Rattle.access.specs.declared.convert.ToCpu.{ToCpu}
-use Rattle.interrupt.specs.declared.used.CardUsed.{CardUsed}
+use Rattle.card_used.specs.declared.used.CardUsed.{CardUsed}
 use Rattle.image.specs.declared.check.Verdict.{Verdict}
 use Rattle.reference.specs.declared.Answer.{Answer}
 

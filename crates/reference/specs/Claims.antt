@@ -9,10 +9,10 @@ use lib.IntN.{ℤ, pos}
 use lib.ListN.{length, getD, replicate}
 use Rattle.board.specs.Parts.{Parts}
 use Rattle.board.specs.Layout.{bases, registersEach, markSize}
-use Rattle.board.specs.Numbers.{bytes}
+use Rattle.numbers.specs.Numbers.{bytes}
 use Rattle.board.specs.Statuses.{funcNotSupported, deviceNotFound, badRegisterNumber, bufferTooSmall, generalError, badHandle, setFailed}
 use Rattle.config.specs.Write.{movesWindows}
-use Rattle.access.specs.Find.{spaceNumber}
+use Rattle.find_window.specs.Find.{spaceNumber}
 use Rattle.access.specs.declared.place.Place.{Place}
 use Rattle.access.specs.declared.place.Place.the-variants.{At, Refused}
 use Rattle.resource.specs.Descriptor.{size}

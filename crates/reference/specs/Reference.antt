@@ -5,7 +5,7 @@ use mathlib.Core.List.{List, [], _∷_, _++_}
 use lib.Dec.{eqb, leb, ltb}
 use lib.IntN.{pos}
 use lib.ListN.{length, getD, take, drop}
-use Rattle.board.specs.Numbers.{byteAt, bytes, big}
+use Rattle.numbers.specs.Numbers.{byteAt, bytes, big}
 use Rattle.board.specs.Layout.{bases, recordSize, masksAt, entriesAt, entrySize, offsetAt, dmaOffsetAt, baseRegister}
 use Rattle.board.specs.Statuses.{successful, funcNotSupported, bufferTooSmall}
 use Rattle.window_list.specs.Windows.{Window, listOf}
@@ -13,16 +13,16 @@ use Rattle.window_list.specs.Listing.{listedNumber, listedValues}
 use Rattle.config.specs.Target.{target}
 use Rattle.config.specs.Read.{readOf, fastReadOf}
 use Rattle.config.specs.Write.{written}
-use Rattle.config.specs.Search.{devices, classes, searchNumber}
+use Rattle.search.specs.Search.{devices, classes, searchNumber}
 use Rattle.config.specs.declared.target.Target.{Target}
 use Rattle.config.specs.declared.target.Target.the-variants.{Function, Refused}
 use Rattle.access.specs.Cells.{cellsAfter}
 use Rattle.access.specs.Convert.{toCpu, toBus}
 use Rattle.access.specs.Data.{readAt, fastReadAt}
-use Rattle.access.specs.Find.{spaceNumber, offers, find, statusOf}
+use Rattle.find_window.specs.Find.{spaceNumber, offers, find, statusOf}
 use Rattle.access.specs.Orders.{placed}
-use Rattle.access.specs.declared.find.Finding.{Finding}
-use Rattle.access.specs.declared.find.Finding.the-variants.{Found, BadHandle, ShortCells, NotAligned, Nothing, Contested, WidthMissing}
+use Rattle.find_window.specs.declared.find.Finding.{Finding}
+use Rattle.find_window.specs.declared.find.Finding.the-variants.{Found, BadHandle, ShortCells, NotAligned, Nothing, Contested, WidthMissing}
 use Rattle.access.specs.declared.place.Place.{Place}
 use Rattle.access.specs.declared.place.Place.the-variants.{At, Refused as NoPlace}
 use Rattle.resource.specs.Resource.{Source, resource}
@@ -30,7 +30,7 @@ use Rattle.interrupt.specs.Hooks.{Hook, hook}
 use Rattle.interrupt.specs.Chain.{isRouted, hookChecks, unhookChecks}
 use Rattle.interrupt.specs.Meaning.{isAmong, without}
 use Rattle.interrupt.specs.Listing.{chainNumber, chainValues}
-use Rattle.interrupt.specs.Used.{Mark, newMark, usedOf, setChecks}
+use Rattle.card_used.specs.Used.{Mark, newMark, usedOf, setChecks}
 use Rattle.image.specs.Cells.{cellsBefore, total, zeroed}
 use Rattle.image.specs.Image.{imageSize, countOf, recordsOf, sum, trailer}
 use Rattle.image.specs.Refusals.{Facts, imageMax, refused, firstRefusal}

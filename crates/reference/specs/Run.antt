@@ -2,12 +2,12 @@
 use Prim.Native.Nat.{ℕ, zero, suc, _+_, _*_, _/_, _%_}
 use mathlib.Core.List.{List, [], _∷_, _++_}
 use lib.ListN.{length, replicate}
-use Rattle.board.specs.Tables.{table}
+use Rattle.numbers.specs.Tables.{table}
 use Rattle.board.specs.Parts.{Parts, parts}
 use Rattle.board.specs.Layout.{functionsMax, recordSize, registersEach, windowsMax, hookSize, markSize}
 use Rattle.window_list.specs.Kept.{keptList}
 use Rattle.interrupt.specs.Hooks.{Hook, lastLine, packed}
-use Rattle.interrupt.specs.Used.{marksOf}
+use Rattle.card_used.specs.Used.{marksOf}
 use Rattle.image.specs.Cells.{offsetsOf}
 use Rattle.load.specs.Load.{padded}
 use Rattle.reference.specs.declared.Answer.{Answer}

@@ -5,20 +5,20 @@ use lib.IntN.{pos}
 use Rattle.board.specs.Parts.{Parts, withRegisters, withCells, withHooks, withUsed}
 use Rattle.board.specs.Handles.{functionCount}
 use Rattle.board.specs.Layout.{registerByte}
-use Rattle.board.specs.Numbers.{bytes}
+use Rattle.numbers.specs.Numbers.{bytes}
 use Rattle.window_list.specs.Kept.{unpacked}
 use Rattle.window_list.specs.Listing.{listing, numberOf, valuesOf}
 use Rattle.config.specs.Read.{readConfig, fastReadConfig}
-use Rattle.config.specs.Search.{devices, classes, searched, foundNumber}
+use Rattle.search.specs.Search.{devices, classes, searched, foundNumber}
 use Rattle.config.specs.Write.{writeConfig}
 use Rattle.access.specs.Convert.{busToCpu, cpuToBus}
 use Rattle.access.specs.Data.{readData, fastReadData, writeData}
-use Rattle.access.specs.Find.{spaceNumber}
+use Rattle.find_window.specs.Find.{spaceNumber}
 use Rattle.resource.specs.Resource.{getResource}
 use Rattle.interrupt.specs.Hooks.{chainOf}
 use Rattle.interrupt.specs.Chain.{hookInterrupt, unhookInterrupt}
 use Rattle.interrupt.specs.Listing.{chainListing, chainNumberOf, chainValuesOf}
-use Rattle.interrupt.specs.Used.{getCardUsed, setCardUsed}
+use Rattle.card_used.specs.Used.{getCardUsed, setCardUsed}
 use Rattle.interrupt.specs.Unsupported.{specialCycle, getRouting, setInterrupt}
 use Rattle.load.specs.Load.{load, reset}
 use Rattle.image.specs.Write.{write}

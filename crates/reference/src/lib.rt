@@ -1,8 +1,8 @@
 // The calls on a board, and their answer. No functions: the reference machine and the claims stand in specs/ and proofs/.
-use access::find::Space;
 use board::address::BusAddress;
 use board::address::CpuAddress;
-use board::number::Width;
+use find_window::find::Space;
+use numbers::number::Width;
 
 // A call with its arguments; the bytes that it reads or fills are lent beside it.
 pub enum Call {

@@ -10,9 +10,9 @@ use lib.ListN.{length, length-append}
 use lib.Pow.{pow-mono}
 use borrow.Author.Tests.{le-leb, lt-leb}
 use Rattle.board.specs.Layout.{exponent}
-use Rattle.board.specs.Numbers.{byteAt, big, bigBytes}
-use Rattle.board.proofs.Numbers.{big-bytes, big-below}
-use Rattle.board.proofs.Tables.{table-length}
+use Rattle.numbers.specs.Numbers.{byteAt, big, bigBytes}
+use Rattle.numbers.proofs.Numbers.{big-bytes, big-below}
+use Rattle.numbers.proofs.Tables.{table-length}
 use Rattle.window_list.specs.Kept.{unpack, unpacked}
 use Rattle.window_list.specs.Windows.{spaceOf}
 use Rattle.resource.specs.declared.descriptor.Descriptor.{Descriptor}

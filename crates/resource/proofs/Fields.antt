@@ -8,10 +8,10 @@ use lib.Dec.{eqb, leb}
 use lib.ListN.{length, length-append}
 use lib.Seq.{sets}
 use borrow.Author.Tests.{eqb-true, leb-true}
-use Rattle.board.specs.Numbers.{bigBytes}
-use Rattle.board.proofs.Tests.{both-true}
-use Rattle.board.proofs.Stores.{sets-append}
-use Rattle.board.proofs.Tables.{table-length}
+use Rattle.numbers.specs.Numbers.{bigBytes}
+use Rattle.numbers.proofs.Tests.{both-true}
+use Rattle.numbers.proofs.Stores.{sets-append}
+use Rattle.numbers.proofs.Tables.{table-length}
 use Rattle.resource.specs.declared.descriptor.Descriptor.{Descriptor}
 use Rattle.resource.specs.Descriptor.{size, shownOrder, descriptorBytes}
 use Rattle.resource.specs.Resource.{isWindow}

@@ -4,5 +4,3 @@ pub mod Turns
 pub mod Back
 pub mod Shows
 pub mod Sources
-pub mod Walks
-pub mod WalkBack

@@ -14,7 +14,7 @@ use Rattle.board.specs.Handles.{isHandle}
 use Rattle.board.specs.Layout.{bases}
 use Rattle.board.specs.Statuses.{successful, bufferTooSmall, generalError, badHandle}
 use Rattle.board.specs.declared.status.Status.{Status}
-use Rattle.board.proofs.Stores.{sets-other}
+use Rattle.numbers.proofs.Stores.{sets-other}
 use Rattle.window_list.specs.Windows.{spaceOf}
 use Rattle.resource.specs.declared.descriptor.Descriptor.{Descriptor}
 use Rattle.resource.specs.Descriptor.{size, descriptorBytes, bytesOf, fieldsAt}

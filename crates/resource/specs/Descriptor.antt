@@ -3,7 +3,7 @@ use Prim.Native.Nat.{ℕ, _+_, _*_, _%_}
 use mathlib.Core.Bool.{Bool, cond, _||_}
 use mathlib.Core.List.{List, [], _∷_, _++_}
 use lib.Dec.{eqb, leb}
-use Rattle.board.specs.Numbers.{byteAt, big, bigBytes}
+use Rattle.numbers.specs.Numbers.{byteAt, big, bigBytes}
 use Rattle.resource.specs.declared.descriptor.Descriptor.{Descriptor}
 
 -- bytes of a descriptor

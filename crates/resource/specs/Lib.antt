@@ -1,5 +1,4 @@
 -- The definitions that contracts cite, and the statements about them.
 pub mod Descriptor
 pub mod Resource
-pub mod Walk
 pub mod Meaning

@@ -1,18 +1,16 @@
 -- What descriptors mean, without the proofs.
-use Prim.Native.Nat.{ℕ, suc, _-_, _*_, _<_, _≤_}
+use Prim.Native.Nat.{ℕ, suc, _*_, _<_, _≤_}
 use mathlib.Core.Bool.{Bool, true}
 use mathlib.Core.List.{List}
 use mathlib.Core.Logic.{_↔_}
 use mathlib.Core.Path.{_≡_}
 use lib.Dec.{eqb}
-use lib.ListN.{length, getD, drop}
+use lib.ListN.{length, getD}
 use Rattle.board.specs.Layout.{bases}
-use Rattle.board.specs.Numbers.{byteAt}
+use Rattle.numbers.specs.Numbers.{byteAt}
 use Rattle.board.specs.Statuses.{successful}
 use Rattle.resource.specs.Descriptor.{size, fieldsAt, isLast}
-use Rattle.resource.specs.declared.step.Step.the-variants.{Ended}
-use Rattle.resource.specs.Resource.{Source, windowBases, descriptorOf, descriptors, resource, sourceOf, getResource}
-use Rattle.resource.specs.Walk.{stepAt, handed, walk, stands}
+use Rattle.resource.specs.Resource.{Source, windowBases, descriptorOf, resource, sourceOf, getResource}
 
 -- of a buffer before and after: the j-th window's base register has its descriptor, all six fields, at 20 j, marked exactly if it is the last; the rest stays
 pub record Shows (s : Source) (before after : List ℕ) : Type 0 where
@@ -44,20 +42,3 @@ pub record Alike (s t : Source) : Type 0 where
 -- have equal descriptors: base registers past the six play no part
 abbrev pub ResourceDependsOn : Type 0
 ResourceDependsOn = (good : Bool) (s t : Source) (out : List ℕ) → Alike s t → resource good s out ≡ resource good t out
-
--- a walk from a position: it is its first step and the walk from there; it ends, as each step passes 20 bytes or more; n steps on it has the rest to hand back, and none once it has ended
-pub record Walks (bytes : List ℕ) (at : ℕ) : Type 0 where
-  pub steps : walk bytes at ≡ handed (stepAt bytes at) (walk bytes)
-  pub few : size * length (walk bytes at) ≤ length bytes - at
-  pub further : (n : ℕ) → walk bytes (stands n bytes at) ≡ drop n (walk bytes at)
-  pub ended : stepAt bytes at ≡ Ended → (n : ℕ) → stepAt bytes (stands n bytes at) ≡ Ended
-
-abbrev pub WalkMeans : Type 0
-WalkMeans = (bytes : List ℕ) (at : ℕ) → Walks bytes at
-
--- a walk through what an accepted call wrote hands back the descriptors written, and no other
-abbrev pub WalkBack : Type 0
-WalkBack =
-    (header records registers windows : List ℕ) (handle : ℕ) (out : List ℕ)
-    → getResource header records registers windows handle out .status ≡ successful
-    → walk (getResource header records registers windows handle out .out) 0 ≡ descriptors (sourceOf records registers windows handle)

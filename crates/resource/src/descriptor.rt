@@ -1,6 +1,6 @@
 // One descriptor: its fields, and its 20 bytes.
-use board::number::Width;
-use board::number::put_big;
+use numbers::number::Width;
+use numbers::number::put_big;
 ghost use mathlib.Core.Bool.{cond};
 ghost use mathlib.Core.Path.{_≡_};
 ghost use lib.ListN.{length};

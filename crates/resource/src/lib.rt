@@ -1,5 +1,3 @@
-// Descriptors of a function's windows, and the walker over descriptor bytes.
+// Descriptors of a function's windows.
 pub mod descriptor;
 pub mod resource;
-pub mod step;
-pub mod walker;

@@ -9,7 +9,7 @@ use lib.ListN.{length, take, drop, length-append}
 use lib.Seq.{length-take-le, take-length, drop-at, drop-drop}
 use borrow.Author.Tests.{ltb-false, lt-ltb, le-ltb}
 use Rattle.board.specs.Parts.{Parts}
-use Rattle.board.specs.Tables.{tableFrom}
+use Rattle.numbers.specs.Tables.{tableFrom}
 use Rattle.reference.specs.declared.Answer.{Answer}
 use Rattle.reference.specs.declared.Call.{Call}
 use Rattle.reference.specs.State.{Next, next, step}

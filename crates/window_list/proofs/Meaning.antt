@@ -11,8 +11,8 @@ use mathlib.Core.Path.{_≡_, refl, ap, sym, _∙_}
 use mathlib.Core.List.{List, [], _∷_, map}
 use Rattle.board.specs.Handles.{functionCount}
 use Rattle.board.specs.Layout.{exponent, registerByte, baseRegister}
-use Rattle.board.proofs.Numbers.{little-same}
-use Rattle.board.proofs.Tests.{both-true}
+use Rattle.numbers.proofs.Numbers.{little-same}
+use Rattle.numbers.proofs.Tests.{both-true}
 use Rattle.window_list.specs.Windows.{Window, end, windowAt, openWindows, sorted, another, contends, any, withMark, listOf}
 use Rattle.window_list.specs.Meaning.{In, Every, howMany, sameRegister, OpenAt, Contests, Contested, Means, ListMeans, Watched, ListDependsOn}
 use Rattle.window_list.proofs.Lists.{in-every, any-sorted, many-sorted, in-sorted, in-map, map-same, any-in, gather-same}

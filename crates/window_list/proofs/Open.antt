@@ -10,8 +10,8 @@ use mathlib.Core.Logic.{_↔_, inl, inr, ⊎-elim}
 use mathlib.Core.Path.{_≡_, refl, ap, sym, _∙_}
 use mathlib.Core.List.{List, [], _∷_, _++_}
 use Rattle.board.specs.Layout.{command, baseRegister}
-use Rattle.board.proofs.Numbers.{little-below}
-use Rattle.board.proofs.Tests.{both-true}
+use Rattle.numbers.proofs.Numbers.{little-below}
+use Rattle.numbers.proofs.Tests.{both-true}
 use Rattle.window_list.specs.Windows.{Window, end, startOf, isOpen, windowOf, windowAt, gather, openWindows, another, withMark}
 use Rattle.window_list.specs.Meaning.{In, Every, OpenAt}
 use Rattle.window_list.proofs.Lists.{every-in, in-gather}

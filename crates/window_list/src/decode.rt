@@ -1,6 +1,6 @@
 // A base register decoded: the window that it opens, as a kept number.
 use crate::kept::packed;
-use board::number::power;
+use numbers::number::power;
 ghost use mathlib.Core.Path.{_≡_};
 ghost use mathlib.Core.Bool.{cond};
 ghost use mathlib.Core.List.{[], _∷_};

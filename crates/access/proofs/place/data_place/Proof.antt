@@ -3,7 +3,7 @@ use mathlib.Core.Path.{sym, _∙_}
 use denote.Ref.{now}
 use Rattle.board.proofs.Handles.{handle-place}
 use Rattle.access.specs.Cells.{placeOf}
-use Rattle.access.proofs.Windows.{found-means}
+use Rattle.find_window.proofs.Meaning.{found-means}
 use borrow.Author.Needs.{needs}
 use Rattle.access.proofs.place.data_place.Statement.{statement}
 use Rattle.access.proofs.place.data_place.Tie as tie

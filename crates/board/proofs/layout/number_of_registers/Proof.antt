@@ -2,7 +2,7 @@
 use mathlib.Core.Path.{_∙_}
 use Prim.Native.Nat.{_*_}
 use native.Mathlib.Nat.{add-assoc}
-use Rattle.board.proofs.Numbers.{little-same}
+use Rattle.numbers.proofs.Numbers.{little-same}
 use borrow.Author.Needs.{needs}
 use Rattle.board.proofs.layout.number_of_registers.Statement.{statement}
 use Rattle.board.proofs.layout.number_of_registers.Tie as tie

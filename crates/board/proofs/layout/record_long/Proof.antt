@@ -2,7 +2,7 @@
 use mathlib.Core.Path.{_∙_}
 use Prim.Native.Nat.{_*_}
 use native.Mathlib.Nat.{add-assoc}
-use Rattle.board.proofs.Numbers.{big-same}
+use Rattle.numbers.proofs.Numbers.{big-same}
 use borrow.Author.Needs.{needs}
 use Rattle.board.proofs.layout.record_long.Statement.{statement}
 use Rattle.board.proofs.layout.record_long.Tie as tie

@@ -2,7 +2,7 @@
 use mathlib.Core.Path.{refl, sym}
 use denote.Ref.{now}
 use Rattle.window_list.specs.Listing.{numberOf, valuesOf}
-use Rattle.config.proofs.Searches.{search-number}
+use Rattle.search.proofs.Searches.{search-number}
 use Rattle.interrupt.specs.Listing.{chainNumberOf, chainValuesOf}
 use Rattle.reference.specs.Answers.{answer, ofStatus, ofSearch, ofRead, ofFastRead, ofToCpu, ofToBus, ofChain, ofUsed}
 use Rattle.reference.specs.State.{step}

@@ -3,7 +3,7 @@ use Prim.Native.Nat.{_^_, _≤_}
 use mathlib.Core.Path.{_≡_, _∙_}
 use native.Mathlib.Omega.{arith}
 use borrow.Author.Tests.{le-leb, lt-leb}
-use Rattle.record.proofs.Entries.{power-small, size-most}
+use Rattle.window_entry.proofs.Entries.{power-small, size-most}
 use borrow.Author.Needs.{needs}
 use Rattle.image.proofs.cells.cell_count.Statement.{statement}
 use Rattle.image.proofs.cells.cell_count.Tie as tie

@@ -1,5 +1,5 @@
 -- `trailer`: twelve bytes, each the definition's.
-use Rattle.board.specs.Tables.{tableFrom}
+use Rattle.numbers.specs.Tables.{tableFrom}
 use borrow.Author.Needs.{needs}
 use Rattle.image.proofs.write.trailer.Statement.{statement}
 use Rattle.image.proofs.write.trailer.Tie as tie

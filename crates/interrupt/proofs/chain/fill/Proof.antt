@@ -2,9 +2,9 @@
 use Prim.Native.Nat.{_-_, _*_, _≤_}
 use mathlib.Core.Path.{_≡_, refl, sym, _∙_}
 use lib.ListN.{length, take, length-set}
-use Rattle.board.specs.Tables.{tableFrom, table}
+use Rattle.numbers.specs.Tables.{tableFrom, table}
 use Rattle.board.specs.Layout.{functionsMax, hookSize}
-use Rattle.board.proofs.Tables.{filled-more, filled-all}
+use Rattle.numbers.proofs.Tables.{filled-more, filled-all}
 use Rattle.interrupt.specs.Hooks.{hookAt, numberAt}
 use Rattle.interrupt.specs.Steps.{after}
 use borrow.Author.Needs.{needs}

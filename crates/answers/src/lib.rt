@@ -1,0 +1,3 @@
+// The answer of each kind of outcome.
+pub mod answer;
+pub mod searches;

@@ -1,0 +1,2 @@
+-- The laws of the used marks.
+pub mod Marks

@@ -1,0 +1,3 @@
+-- The used marks, and what they mean.
+pub mod Used
+pub mod Meaning

@@ -1,0 +1,3 @@
+-- The laws of the search for a window.
+pub mod Searches
+pub mod Meaning

@@ -1,0 +1,156 @@
+// The step that finds the window for a handle.
+use board::address::BusAddress;
+use board::handle::is_handle;
+use board::layout::BASES;
+use board::layout::CellOffsets;
+use board::layout::Header;
+use board::layout::Records;
+use board::layout::WINDOWS;
+use board::layout::Windows;
+use board::layout::widths;
+use numbers::number::Width;
+use numbers::number::is_multiple;
+use numbers::number::u32_at;
+use window_list::kept::base_of;
+use window_list::kept::handle_of;
+use window_list::kept::is_contested;
+use window_list::kept::is_io;
+use window_list::kept::length_of;
+use window_list::kept::start_of;
+ghost use mathlib.Core.Path.{_≡_};
+ghost use lib.Dec.{eqb};
+ghost use Prim.Native.Nat.{_-_, _≤_, _<_};
+ghost use Rattle.board.specs.Layout.{widths};
+ghost use Rattle.numbers.specs.Numbers.{bytes};
+ghost use Rattle.window_list.specs.Kept.{unpack, unpacked};
+ghost use Rattle.window_list.specs.Windows.{end};
+ghost use Rattle.find_window.specs.Find.{spaceNumber, holds, offers, judged, inList, findIn};
+
+// The two address spaces.
+pub enum Space {
+    Memory,
+    Io,
+}
+
+// The window that an access is for, with its distance from the window's start and the bytes that remain to its end; or the check that failed.
+pub enum Finding {
+    Found {
+        base: u8,
+        distance: u32,
+        remaining: u32,
+    },
+    BadHandle,
+    ShortCells,
+    NotAligned,
+    Nothing,
+    Contested,
+    WidthMissing,
+}
+
+fn is_in(w: u64, space: Space) -> bool
+    ensures { λ r. ⌜ r ≡ eqb (unpack w .space) (spaceNumber space) ⌝ }
+{
+    match space {
+        Space::Memory => !is_io(w),
+        Space::Io => is_io(w),
+    }
+}
+
+// Whether a kept number is a window of the function's own, in that space, that holds the address.
+fn holds(w: u64, space: Space, handle: u32, address: u32) -> bool
+    ensures { λ r. ⌜ r ≡ holds (spaceNumber space) handle address (unpack w) ⌝ }
+{
+    let start = start_of(w);
+    let end = start as u64 + length_of(w) as u64;
+    is_in(w, space)
+        & ((handle_of(w) == handle)
+            & ((base_of(w) < BASES as u32) & ((start <= address) & ((address as u64) < end))))
+}
+
+// Whether widths offer a width.
+fn offers(width: Width, widths: u8) -> bool
+    ensures { λ r. ⌜ r ≡ offers (bytes width) widths ⌝ }
+{
+    match width {
+        Width::Byte => widths % 2 == 1,
+        Width::Word => widths / 2 % 2 == 1,
+        Width::Long => widths / 4 % 2 == 1,
+    }
+}
+
+// What is found in a window that holds the address.
+fn judged(records: &Records, w: u64, width: Width, function: u32, address: u32) -> Finding
+    requires { ⌜ (unpack w .start ≤ address) × (address < end (unpack w)) ⌝ }
+    ensures { λ r. ⌜ r ≡ judged (λ b. offers (bytes width) (widths (now (records .entry)) function b)) address (unpack w) ⌝ }
+{
+    let base = base_of(w) as u8;
+    let contested = is_contested(w);
+    let offered = offers(width, widths(records, function, base));
+    if contested {
+        return Finding::Contested;
+    }
+    if !offered {
+        return Finding::WidthMissing;
+    }
+    let distance = address - start_of(w);
+    Finding::Found {
+        base: base,
+        distance: distance,
+        remaining: length_of(w) - distance,
+    }
+}
+
+// What is found in the kept list.
+fn in_list(
+    records: &Records,
+    list: &[u64],
+    space: Space,
+    width: Width,
+    handle: u32,
+    address: u32,
+) -> Finding
+    requires { ⌜ 1 ≤ handle ⌝ }
+    ensures { λ r. ⌜ r ≡ inList (λ b. offers (bytes width) (widths (now (records .entry)) (handle - 1) b)) (spaceNumber space) handle address (unpacked (now (list .entry))) ⌝ }
+{
+    let mut j = 0;
+    while j < list.len() {
+        let w = list[j];
+        if length_of(w) == 0 {
+            return Finding::Nothing;
+        }
+        if holds(w, space, handle, address) {
+            return judged(records, w, width, handle - 1, address);
+        }
+        j += 1;
+    }
+    Finding::Nothing
+}
+
+// The window of a handle that holds an address, with so many cells lent.
+pub fn find_window(
+    header: &Header,
+    records: &Records,
+    windows: &Windows,
+    offsets: &CellOffsets,
+    room: usize,
+    space: Space,
+    width: Width,
+    handle: u32,
+    address: BusAddress,
+) -> Finding
+    ensures { λ r. ⌜ r ≡ findIn (bytes width) (now (header .entry)) (now (records .entry)) (now (windows .entry)) (now (offsets .entry)) room (spaceNumber space) handle (address .0) ⌝ }
+{
+    let good = is_handle(header, handle);
+    let short = room < u32_at(offsets, WINDOWS) as usize;
+    let multiple = is_multiple(address.0, width);
+    if !good {
+        return Finding::BadHandle;
+    }
+    if short {
+        return Finding::ShortCells;
+    }
+    if !multiple {
+        return Finding::NotAligned;
+    }
+    in_list(records, windows, space, width, handle, address.0)
+}

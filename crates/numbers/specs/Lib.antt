@@ -1,0 +1,3 @@
+-- Numbers of w bytes, and tables.
+pub mod Tables
+pub mod Numbers

@@ -1,0 +1,2 @@
+// Bytes, and numbers of w bytes in both orders.
+pub mod number;

@@ -1,0 +1,152 @@
+// Bytes and the numbers that they make: total readers, 0 past the end, and powers of two.
+ghost use mathlib.Core.Path.{_≡_};
+ghost use Prim.Native.Nat.{_+_, _*_, _%_, _<_};
+ghost use lib.Dec.{eqb};
+ghost use lib.ListN.{getD, set};
+ghost use lib.Seq.{sets};
+ghost use Rattle.numbers.specs.Numbers.{byteAt, bytes, little, big, bigBytes, reversed, power};
+
+// How many bytes an access or a number has: 1, 2 or 4.
+pub enum Width {
+    Byte,
+    Word,
+    Long,
+}
+
+// The bytes of a width.
+pub fn bytes(width: Width) -> u8
+    ensures { λ r. ⌜ r ≡ bytes width ⌝ }
+{
+    match width {
+        Width::Byte => 1,
+        Width::Word => 2,
+        Width::Long => 4,
+    }
+}
+
+// Whether a number is a multiple of a width.
+pub fn is_multiple(n: u32, width: Width) -> bool
+    ensures { λ r. ⌜ r ≡ eqb (n % bytes width) 0 ⌝ }
+{
+    match width {
+        Width::Byte => true,
+        Width::Word => n % 2 == 0,
+        Width::Long => n % 4 == 0,
+    }
+}
+
+// The byte at a place, 0 past the end.
+pub fn byte_at(s: &[u8], at: usize) -> u8
+    ensures { λ r. ⌜ r ≡ byteAt (now (s .entry)) at ⌝ }
+{
+    if at < s.len() { s[at] } else { 0 }
+}
+
+// Stores a byte at a place; past the end nothing is stored.
+pub fn put_byte(s: &mut [u8], at: usize, b: u8)
+    ensures { λ _. ⌜ now (s .exit) ≡ set (now (s .entry)) at b ⌝ }
+{
+    if at < s.len() {
+        s[at] = b;
+    }
+}
+
+// A byte as a number, which is below 256.
+pub fn wide(b: u8) -> u32
+    ensures { λ r. ⌜ (r ≡ b) × (r < 256) ⌝ }
+{
+    b as u32
+}
+
+// The byte i places after a place, 0 past the end.
+fn byte_after(s: &[u8], at: usize, i: u8) -> u8
+    ensures { λ r. ⌜ r ≡ byteAt (now (s .entry)) (at + i) ⌝ }
+{
+    if s.len() <= at {
+        return 0;
+    }
+    byte_at(s, at + i as usize)
+}
+
+// The number of four bytes, least first.
+fn number(a: u8, b: u8, c: u8, d: u8) -> u32
+    ensures { λ r. ⌜ r ≡ a % 256 + 256 * (b % 256 + 256 * (c % 256 + 256 * (d % 256))) ⌝ }
+{
+    wide(a) + 256 * wide(b) + 65536 * wide(c) + 16777216 * wide(d)
+}
+
+// The number at a place, least byte first.
+pub fn little_at(s: &[u8], at: usize, width: Width) -> u32
+    ensures { λ r. ⌜ r ≡ little (bytes width) (byteAt (now (s .entry))) at ⌝ }
+{
+    let a = byte_after(s, at, 0);
+    match width {
+        Width::Byte => number(a, 0, 0, 0),
+        Width::Word => number(a, byte_after(s, at, 1), 0, 0),
+        Width::Long => {
+            number(
+                a,
+                byte_after(s, at, 1),
+                byte_after(s, at, 2),
+                byte_after(s, at, 3),
+            )
+        }
+    }
+}
+
+// A number with the bytes of a width in the other order.
+pub fn reversed(v: u32, width: Width) -> u32
+    ensures { λ r. ⌜ r ≡ reversed (bytes width) v ⌝ }
+{
+    match width {
+        Width::Byte => v % 256,
+        Width::Word => v % 256 * 256 + v / 256 % 256,
+        Width::Long => {
+            v % 256 * 16777216 + v / 256 % 256 * 65536 + v / 65536 % 256 * 256 + v / 16777216
+        }
+    }
+}
+
+// The number at a place, highest byte first.
+pub fn big_at(s: &[u8], at: usize, width: Width) -> u32
+    ensures { λ r. ⌜ r ≡ big (bytes width) (byteAt (now (s .entry))) at ⌝ }
+{
+    reversed(little_at(s, at, width), width)
+}
+
+// Stores the bytes of a number at a place, highest first; past the end nothing is stored.
+pub fn put_big(s: &mut [u8], at: usize, width: Width, value: u32)
+    ensures { λ _. ⌜ now (s .exit) ≡ sets (now (s .entry)) at (bigBytes (bytes width) value) ⌝ }
+{
+    if s.len() <= at {
+        return;
+    }
+    let w = bytes(width);
+    let mut rest = reversed(value, width);
+    let mut i = 0;
+    while i < w {
+        put_byte(s, at + i as usize, (rest % 256) as u8);
+        rest = rest / 256;
+        i += 1;
+    }
+}
+
+// The number at a place of a lent array, 0 past the end.
+pub fn u32_at(s: &[u32], at: usize) -> u32
+    ensures { λ r. ⌜ r ≡ getD (now (s .entry)) at 0 ⌝ }
+{
+    if at < s.len() { s[at] } else { 0 }
+}
+
+pub fn u64_at(s: &[u64], at: usize) -> u64
+    ensures { λ r. ⌜ r ≡ getD (now (s .entry)) at 0 ⌝ }
+{
+    if at < s.len() { s[at] } else { 0 }
+}
+
+// 2 to the power k, and 0 for k past 31.
+pub fn power(k: u32) -> u64
+    ensures { λ r. ⌜ r ≡ power k ⌝ }
+{
+    if k < 32 { 1u64 << k } else { 0 }
+}

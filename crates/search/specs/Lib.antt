@@ -1,0 +1,4 @@
+-- Searching, and what it means.
+pub mod Search
+pub mod Steps
+pub mod Meaning

@@ -1,0 +1,2 @@
+// The two searches of document 01.
+pub mod search;

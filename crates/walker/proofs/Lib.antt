@@ -1,0 +1,3 @@
+-- The laws of walks.
+pub mod Walks
+pub mod WalkBack

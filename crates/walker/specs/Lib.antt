@@ -1,0 +1,3 @@
+-- Walks through descriptors, and what they mean.
+pub mod Walk
+pub mod Meaning

@@ -1,0 +1,2 @@
+// The rules of one window entry of a record.
+pub mod entry;
