@@ -5,7 +5,7 @@ use mathlib.Core.List.{List}
 use lib.Dec.{ltb}
 use lib.ListN.{length}
 use Rattle.board.specs.Layout.{exponent}
-use Rattle.image.specs.Cells.{total}
+use Rattle.cells.specs.Cells.{total}
 use Rattle.image.specs.Image.{distanceOf, countOf, editionOf, sumOf, recordsOf, recordAt, sum}
 use Rattle.image.specs.Refusals.{Facts, imageMax, refused, firstBad, firstRefusal}
 use Rattle.image.specs.declared.check.Verdict.{Verdict}

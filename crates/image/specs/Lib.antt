@@ -1,8 +1,6 @@
 -- The definitions that contracts cite, and the statements about them.
-pub mod Cells
 pub mod Image
 pub mod Refusals
 pub mod Check
 pub mod Write
 pub mod Steps
-pub mod Meaning

@@ -1,7 +1,7 @@
 // The check of a board image, without a board.
-use crate::cells::total_of;
 use board::layout::FUNCTIONS;
 use board::layout::RECORD;
+use cells::cells::total_of;
 use numbers::number::Width;
 use numbers::number::big_at;
 use numbers::number::wide;
@@ -10,7 +10,7 @@ ghost use mathlib.Core.Path.{_≡_};
 ghost use Prim.Native.Nat.{_*_, _<_, _≤_};
 ghost use lib.ListN.{length};
 ghost use Rattle.board.specs.Layout.{functionsMax, recordSize, exponent};
-ghost use Rattle.image.specs.Cells.{total};
+ghost use Rattle.cells.specs.Cells.{total};
 ghost use Rattle.image.specs.Image.{imageSize, trailerSize, recordAt, sum};
 ghost use Rattle.image.specs.Refusals.{firstBad};
 ghost use Rattle.image.specs.Steps.{formRefusal, cellsVerdict, recordsVerdict};

@@ -1,4 +1,3 @@
-// Board images: the check and the writer, and the cells that an image asks for.
-pub mod cells;
+// Board images: the check and the writer.
 pub mod check;
 pub mod write;

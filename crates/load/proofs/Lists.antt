@@ -8,9 +8,9 @@ use lib.Seq.{getD-append-add, getD-drop}
 use Rattle.board.specs.Layout.{functionsMax, recordSize, entriesAt, entrySize, bases, windowsMax, exponent}
 use Rattle.image.specs.Image.{imageSize, countOf, recordsOf}
 use Rattle.load.specs.Load.{padded}
-use Rattle.image.specs.Cells.{total, zeroed}
+use Rattle.cells.specs.Cells.{total, zeroed}
 use Rattle.image.proofs.Lists.{copied}
-use Rattle.image.proofs.Ranges.{before-same}
+use Rattle.cells.proofs.Ranges.{before-same}
 
 pub zeroed-more : (i : ℕ) (l : List ℕ) → i < length l → set (zeroed i l) i 0 ≡ zeroed (suc i) l
 zeroed-more i [] h = absurd (omega arith)

@@ -15,7 +15,7 @@ use Rattle.board.specs.Parts.{Parts}
 use Rattle.board.specs.Handles.{functionCount}
 use Rattle.numbers.proofs.Numbers.{big-below, big-bytes, bytes-big}
 use Rattle.numbers.proofs.Tables.{table-length}
-use Rattle.image.specs.Cells.{total, offsetsOf}
+use Rattle.cells.specs.Cells.{total, offsetsOf}
 use Rattle.image.specs.Image.{imageSize, back, distanceOf, countOf, editionOf, sumOf, recordsOf, sum, trailer}
 use Rattle.image.specs.Refusals.{accepted}
 use Rattle.image.specs.Steps.{cellsVerdict}

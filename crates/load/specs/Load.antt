@@ -11,7 +11,7 @@ use Rattle.board.specs.Parts.{Parts, parts}
 use Rattle.board.specs.Layout.{functionsMax, recordSize, registersEach, hookSize, markSize, windowsMax, recordByte, exponent}
 use Rattle.window_list.specs.Windows.{windowList}
 use Rattle.window_list.specs.Kept.{keptList}
-use Rattle.image.specs.Cells.{offsetsOf, zeroed}
+use Rattle.cells.specs.Cells.{offsetsOf, zeroed}
 use Rattle.image.specs.Image.{countOf, recordsOf}
 use Rattle.image.specs.Check.{checked}
 use Rattle.image.specs.declared.check.Verdict.{Verdict}

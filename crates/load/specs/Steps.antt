@@ -3,7 +3,7 @@ use Prim.Native.Nat.{ℕ}
 use mathlib.Core.List.{List, [], _∷_}
 use mathlib.Core.Path.{_≡_}
 use Rattle.board.specs.Layout.{exponent}
-use Rattle.image.specs.Cells.{offsetsOf}
+use Rattle.cells.specs.Cells.{offsetsOf}
 use Rattle.image.specs.Image.{countOf, recordsOf}
 use Rattle.load.specs.Load.{padded}
 

@@ -5,7 +5,7 @@ use board::layout::Header;
 use board::layout::RECORD;
 use board::layout::Records;
 use bytes::copy;
-use image::cells::place_cells;
+use cells::cells::place_cells;
 use image::check::TRAILER;
 use numbers::number::Width;
 use numbers::number::big_at;

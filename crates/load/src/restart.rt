@@ -20,7 +20,7 @@ ghost use Prim.Native.Nat.{_*_, _≤_};
 ghost use lib.ListN.{length, getD};
 ghost use Rattle.board.specs.Layout.{functionsMax, registersEach, windowsMax};
 ghost use Rattle.board.specs.Parts.{parts};
-ghost use Rattle.image.specs.Cells.{zeroed};
+ghost use Rattle.cells.specs.Cells.{zeroed};
 ghost use Rattle.load.specs.Load.{registersOf, restarted};
 
 // The reset values of all functions into the registers.

@@ -13,7 +13,7 @@ use Rattle.interrupt.specs.Listing.{placeNumber, placeValues}
 use Rattle.interrupt.specs.Meaning.{isAmong}
 use Rattle.window_entry.specs.Entry.{entryOk}
 use Rattle.record.specs.Record.{recordOk}
-use Rattle.image.specs.Cells.{cellsBefore}
+use Rattle.cells.specs.Cells.{cellsBefore}
 use Rattle.image.specs.Image.{sum}
 use Rattle.image.specs.Refusals.{firstBad, firstRefusal}
 use Rattle.reference.specs.Reference.{placeIn, split, verdict, referenceStep}

@@ -17,7 +17,7 @@ use Rattle.search.specs.Search.{matching, searchNumber}
 use Rattle.find_window.specs.Find.{inList, find}
 use Rattle.window_entry.specs.Entry.{entryOk}
 use Rattle.record.specs.Record.{recordOk}
-use Rattle.image.specs.Cells.{cellsBefore}
+use Rattle.cells.specs.Cells.{cellsBefore}
 use Rattle.image.specs.Image.{sum}
 use Rattle.image.specs.Refusals.{firstBad, firstRefusal}
 use Rattle.reference.specs.Reference.{placeIn, split, verdict, referenceStep}

@@ -15,7 +15,7 @@ use Rattle.numbers.proofs.Tables.{table-length}
 use Rattle.access.specs.Cells.{cellsAfter}
 use Rattle.access.specs.declared.place.Place.the-variants.{At}
 use Rattle.access.proofs.Cells.{only-its-cells}
-use Rattle.image.specs.Cells.{zeroed}
+use Rattle.cells.specs.Cells.{zeroed}
 use Rattle.load.proofs.Lists.{zeroed-length, zeroed-past}
 use Rattle.reference.specs.Claims.{accessed, Alike}
 use Rattle.reference.proofs.Tests.{ifEither}

@@ -21,9 +21,9 @@ use Rattle.find_window.specs.declared.find.Finding.{Finding}
 use Rattle.find_window.specs.declared.find.Finding.the-variants.{Found, BadHandle, ShortCells, NotAligned, Nothing, Contested, WidthMissing}
 use Rattle.find_window.specs.declared.find.Space.{Space}
 use Rattle.find_window.proofs.Searches.{held}
-use Rattle.image.specs.Cells.{offsetsOf}
+use Rattle.cells.specs.Cells.{offsetsOf}
 use Rattle.load.specs.Load.{padded}
-use Rattle.image.proofs.Ranges.{offset-at, cell-ranges}
+use Rattle.cells.proofs.Ranges.{offset-at, cell-ranges}
 use Rattle.reference.specs.declared.Call.the-variants.{ReadData, FastReadData, WriteData, BusToCpu, CpuToBus}
 use Rattle.reference.specs.State.{step}
 use Rattle.reference.specs.Reference.{Reference, entryOf, exponentOf, joined, windowsOf, findFor, placeIn, placeFor, referenceStep}

@@ -12,7 +12,7 @@ use Rattle.board.specs.Layout.{functionsMax, registersEach, markSize}
 use Rattle.numbers.specs.Numbers.{bytes}
 use Rattle.config.specs.Write.{movesWindows}
 use Rattle.find_window.specs.Find.{spaceNumber}
-use Rattle.image.specs.Cells.{total}
+use Rattle.cells.specs.Cells.{total}
 use Rattle.image.specs.Image.{imageSize, sum, trailer}
 use Rattle.image.proofs.Lists.{trailer-length}
 use Rattle.reference.specs.declared.Call.{Call}

@@ -24,7 +24,7 @@ use Rattle.access.specs.declared.place.Place.the-variants.{At}
 use Rattle.find_window.proofs.Searches.{Held, held}
 use Rattle.find_window.proofs.Meaning.{found-means}
 use Rattle.access.proofs.Windows.{inside-window}
-use Rattle.image.specs.Cells.{cellCount, slotCells, cellsBefore}
+use Rattle.cells.specs.Cells.{cellCount, slotCells, cellsBefore}
 use Rattle.reference.specs.Reference.{Reference, entryOf, exponentOf, windowsOf, findFor, placeIn, placeFor}
 
 -- an accepted access lies in the cells of one window of its function

@@ -14,8 +14,8 @@ use Rattle.numbers.proofs.Numbers.{big-same}
 use Rattle.access.specs.Cells.{valueAt, cellsAfter}
 use Rattle.access.specs.Orders.{ordered}
 use Rattle.access.proofs.Cells.{only-its-cells}
-use Rattle.image.specs.Cells.{slotCells, cellsBefore, total, zeroed}
-use Rattle.image.proofs.Ranges.{before-apart}
+use Rattle.cells.specs.Cells.{slotCells, cellsBefore, total, zeroed}
+use Rattle.cells.proofs.Ranges.{before-apart}
 use Rattle.reference.specs.Reference.{Reference, exponentOf, withCellsOf}
 use Rattle.reference.proofs.Tests.{ifEither}
 use Rattle.reference.proofs.InSlot.{InSlot}

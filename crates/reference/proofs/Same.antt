@@ -14,11 +14,11 @@ use Rattle.board.specs.Layout.{functionsMax, bases, windowsMax, recordSize, ent
 use Rattle.numbers.proofs.Tables.{table-same}
 use Rattle.interrupt.specs.Hooks.{lastLine, numbers, packed}
 use Rattle.card_used.specs.Used.{marksOf}
-use Rattle.image.specs.Cells.{total, cellsBefore, offsetsOf}
+use Rattle.cells.specs.Cells.{total, cellsBefore, offsetsOf}
 use Rattle.image.specs.Image.{imageSize, countOf, recordsOf, recordAt}
 use Rattle.image.specs.Check.{factsOf, checked}
 use Rattle.load.specs.Load.{padded, registersOf, restarted, installed}
-use Rattle.image.proofs.Ranges.{offset-at, before-same}
+use Rattle.cells.proofs.Ranges.{offset-at, before-same}
 use Rattle.image.proofs.Accepted.{accepted-image, records-length}
 use Rattle.reference.specs.Reference.{recordOf, exponentOf, joined, fresh, imageRecords, imageFacts, verdict}
 use Rattle.reference.specs.Run.{lineByLine, partsOf}

@@ -20,7 +20,7 @@ use Rattle.interrupt.specs.Hooks.{Hook}
 use Rattle.interrupt.specs.Chain.{isRouted}
 use Rattle.interrupt.specs.Meaning.{isAmong}
 use Rattle.card_used.specs.Used.{Mark}
-use Rattle.image.specs.Cells.{total}
+use Rattle.cells.specs.Cells.{total}
 use Rattle.image.specs.Image.{imageSize}
 use Rattle.reference.specs.declared.Answer.{Answer}
 use Rattle.reference.specs.declared.Call.{Call}

@@ -13,12 +13,12 @@ use Rattle.window_list.specs.Windows.{gather, openWindows, putAll, listOf}
 use Rattle.window_list.specs.Kept.{keptList}
 use Rattle.window_list.proofs.KeptArray.{kept-of}
 use Rattle.window_list.proofs.Answers.{number-is, values-are}
-use Rattle.image.specs.Cells.{cellsBefore, total, offsetsOf}
+use Rattle.cells.specs.Cells.{cellsBefore, total, offsetsOf}
 use Rattle.image.specs.Image.{imageSize, imageOf}
 use Rattle.load.specs.Load.{padded, load, reset}
 use Rattle.image.specs.Write.{write}
 use Rattle.load.proofs.Lists.{zeroed-length}
-use Rattle.image.proofs.Ranges.{offset-at}
+use Rattle.cells.proofs.Ranges.{offset-at}
 use Rattle.reference.specs.declared.Call.{Call}
 use Rattle.reference.specs.declared.Call.the-variants.{Load, Reset, WriteImage, FindPciDevice, FindPciClasscode, ReadConfig, FastReadConfig, WriteConfig, ReadData, FastReadData, WriteData, BusToCpu, CpuToBus, GetResource, HookInterrupt, UnhookInterrupt, ListChain, GetCardUsed, SetCardUsed, SpecialCycle, GetRouting, SetInterrupt, ListWindow}
 use Rattle.reference.specs.State.{step}

@@ -10,7 +10,7 @@ use borrow.Author.Tests.{leb-true}
 use Rattle.board.specs.Handles.{isHandle}
 use Rattle.board.specs.Layout.{functionsMax}
 use Rattle.numbers.proofs.Tests.{both-true}
-use Rattle.image.specs.Cells.{total}
+use Rattle.cells.specs.Cells.{total}
 use Rattle.reference.specs.declared.Answer.{Answer}
 use Rattle.reference.specs.declared.Call.{Call}
 use Rattle.reference.specs.State.{Next, next, step}

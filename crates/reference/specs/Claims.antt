@@ -17,7 +17,7 @@ use Rattle.access.specs.declared.place.Place.{Place}
 use Rattle.access.specs.declared.place.Place.the-variants.{At, Refused}
 use Rattle.resource.specs.Descriptor.{size}
 use Rattle.resource.specs.Resource.{windowBases}
-use Rattle.image.specs.Cells.{slotCells, cellsBefore, total}
+use Rattle.cells.specs.Cells.{slotCells, cellsBefore, total}
 use Rattle.image.specs.Image.{imageSize}
 use Rattle.reference.specs.declared.Answer.{Answer}
 use Rattle.reference.specs.declared.Call.{Call}

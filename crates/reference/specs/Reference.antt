@@ -31,7 +31,7 @@ use Rattle.interrupt.specs.Chain.{isRouted, hookChecks, unhookChecks}
 use Rattle.interrupt.specs.Meaning.{isAmong, without}
 use Rattle.interrupt.specs.Listing.{chainNumber, chainValues}
 use Rattle.card_used.specs.Used.{Mark, newMark, usedOf, setChecks}
-use Rattle.image.specs.Cells.{cellsBefore, total, zeroed}
+use Rattle.cells.specs.Cells.{cellsBefore, total, zeroed}
 use Rattle.image.specs.Image.{imageSize, countOf, recordsOf, sum, trailer}
 use Rattle.image.specs.Refusals.{Facts, imageMax, refused, firstRefusal}
 use Rattle.image.specs.Check.{facts}

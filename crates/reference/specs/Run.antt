@@ -8,7 +8,7 @@ use Rattle.board.specs.Layout.{functionsMax, recordSize, registersEach, windows
 use Rattle.window_list.specs.Kept.{keptList}
 use Rattle.interrupt.specs.Hooks.{Hook, lastLine, packed}
 use Rattle.card_used.specs.Used.{marksOf}
-use Rattle.image.specs.Cells.{offsetsOf}
+use Rattle.cells.specs.Cells.{offsetsOf}
 use Rattle.load.specs.Load.{padded}
 use Rattle.reference.specs.declared.Answer.{Answer}
 use Rattle.reference.specs.declared.Call.{Call}

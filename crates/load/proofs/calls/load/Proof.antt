@@ -1,7 +1,7 @@
 -- `load`: refused before anything is written; an accepted image is installed, and its cells fit.
 use native.Mathlib.Omega.{arith}
 use Rattle.board.specs.Layout.{windowsMax}
-use Rattle.image.proofs.Ranges.{offset-at}
+use Rattle.cells.proofs.Ranges.{offset-at}
 use Rattle.load.proofs.Lists.{padded-total}
 use borrow.Author.Tests.{ne-eqb, eq-eqb}
 use Rattle.load.specs.Load.{load}

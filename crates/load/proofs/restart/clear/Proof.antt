@@ -3,7 +3,7 @@ use Prim.Native.Nat.{_-_, _≤_}
 use mathlib.Core.Path.{_≡_, refl, _∙_, ap}
 use native.Mathlib.Numerals.{add-one}
 use lib.ListN.{length}
-use Rattle.image.specs.Cells.{zeroed}
+use Rattle.cells.specs.Cells.{zeroed}
 use Rattle.load.proofs.Lists.{zeroed-more, zeroed-length}
 use borrow.Author.Needs.{needs}
 use native.Mathlib.Omega.{arith}

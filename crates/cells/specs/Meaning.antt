@@ -4,7 +4,7 @@ use mathlib.Core.List.{List}
 use mathlib.Core.Path.{_≡_}
 use lib.ListN.{getD}
 use Rattle.board.specs.Layout.{windowsMax}
-use Rattle.image.specs.Cells.{slotCells, total, offsetsOf}
+use Rattle.cells.specs.Cells.{slotCells, total, offsetsOf}
 
 -- the ranges of cells: from 0, each where the one before it ends, apart from all later ones, up to the total
 pub record InOrder (k : ℕ → ℕ → ℕ) (offsets : List ℕ) : Type 0 where

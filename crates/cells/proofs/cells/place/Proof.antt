@@ -3,10 +3,10 @@ use Prim.Native.Nat.{_-_}
 use mathlib.Core.Path.{sym, _∙_}
 use lib.ListN.{length-set}
 use Rattle.board.specs.Layout.{windowsMax, exponent}
-use Rattle.image.proofs.Lists.{Placed, placed-none, placed-more, placed-all}
+use Rattle.cells.proofs.Placing.{Placed, placed-none, placed-more, placed-all}
 use native.Mathlib.Omega.{arith}
-use Rattle.image.proofs.cells.place.Statement.{statement}
-use Rattle.image.proofs.cells.place.Tie as tie
+use Rattle.cells.proofs.cells.place.Statement.{statement}
+use Rattle.cells.proofs.cells.place.Tie as tie
 
 abbrev Inv-loop : tie.InvT-loop
 Inv-loop records offsets₀ t₀ s₀ offsets t s =

@@ -1,8 +1,8 @@
 -- `slot_cells`: the exponent stands in the flat records where the definition reads it.
 use native.Mathlib.Nat.{add-zero}
 use borrow.Author.Needs.{needs}
-use Rattle.image.proofs.cells.slot_cells.Statement.{statement}
-use Rattle.image.proofs.cells.slot_cells.Tie as tie
+use Rattle.cells.proofs.cells.slot_cells.Statement.{statement}
+use Rattle.cells.proofs.cells.slot_cells.Tie as tie
 
 mul-at : tie.Need-mul-at
 mul-at c = search needs

@@ -5,8 +5,8 @@ use native.Mathlib.Omega.{arith}
 use borrow.Author.Tests.{le-leb, lt-leb}
 use Rattle.window_entry.proofs.Entries.{power-small, size-most}
 use borrow.Author.Needs.{needs}
-use Rattle.image.proofs.cells.cell_count.Statement.{statement}
-use Rattle.image.proofs.cells.cell_count.Tie as tie
+use Rattle.cells.proofs.cells.cell_count.Statement.{statement}
+use Rattle.cells.proofs.cells.cell_count.Tie as tie
 
 returns : tie.Need-returns
 returns c =

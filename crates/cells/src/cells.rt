@@ -12,7 +12,7 @@ ghost use mathlib.Core.Path.{_≡_};
 ghost use Prim.Native.Nat.{_+_, _<_, _≤_};
 ghost use lib.ListN.{length};
 ghost use Rattle.board.specs.Layout.{windowsMax, exponent};
-ghost use Rattle.image.specs.Cells.{cellCount, slotCells, total, offsetsOf};
+ghost use Rattle.cells.specs.Cells.{cellCount, slotCells, total, offsetsOf};
 
 // The cells of a window of length exponent k.
 fn cell_count(k: u8) -> u32
@@ -39,7 +39,7 @@ fn slot_cells(records: &[u8], s: usize) -> u32
 }
 
 // The cells of all windows.
-pub(crate) fn total_of(records: &[u8]) -> u32
+pub fn total_of(records: &[u8]) -> u32
     ensures { λ r. ⌜ r ≡ total (exponent (now (records .entry))) ⌝ }
 {
     let mut n = 0;

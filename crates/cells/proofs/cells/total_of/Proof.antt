@@ -4,10 +4,10 @@ use mathlib.Core.Path.{_≡_, refl}
 use native.Mathlib.Omega.{arith}
 use native.Mathlib.Numerals.{add-one}
 use Rattle.board.specs.Layout.{windowsMax, exponent}
-use Rattle.image.specs.Cells.{cellsBefore}
+use Rattle.cells.specs.Cells.{cellsBefore}
 use borrow.Author.Needs.{needs}
-use Rattle.image.proofs.cells.total_of.Statement.{statement}
-use Rattle.image.proofs.cells.total_of.Tie as tie
+use Rattle.cells.proofs.cells.total_of.Statement.{statement}
+use Rattle.cells.proofs.cells.total_of.Tie as tie
 
 abbrev Inv-loop : tie.InvT-loop
 Inv-loop records t₀ s₀ t s = (s ≤ windowsMax) × (t ≡ cellsBefore (exponent records) s) × (t ≤ 65536 * s)

@@ -6,8 +6,8 @@ use mathlib.Core.Path.{_≡_, refl, _∙_, ap}
 use lib.ListN.{getD}
 use Rattle.board.specs.Layout.{bases, windowsMax}
 use Rattle.numbers.proofs.Tables.{table-get}
-use Rattle.image.specs.Cells.{slotCells, cellsBefore, offsetsOf}
-use Rattle.image.specs.Meaning.{CellRanges}
+use Rattle.cells.specs.Cells.{slotCells, cellsBefore, offsetsOf}
+use Rattle.cells.specs.Meaning.{CellRanges}
 
 pub offset-at : (k : ℕ → ℕ → ℕ) (s : ℕ) → s ≤ windowsMax → getD (offsetsOf k) s 0 ≡ cellsBefore k s
 offset-at k s h = let e : 0 + s ≡ s = omega arith in table-get 0 (windowsMax + 1) (cellsBefore k) s (omega arith) ∙ ap (cellsBefore k) e

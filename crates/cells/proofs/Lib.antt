@@ -1,0 +1,3 @@
+-- The laws of the cells' offsets.
+pub mod Placing
+pub mod Ranges

@@ -1,0 +1,3 @@
+-- The cells of the windows, and what their offsets mean.
+pub mod Cells
+pub mod Meaning

@@ -1,0 +1,2 @@
+// The cells of the windows: how many each needs, and where they begin.
+pub mod cells;
