@@ -1,0 +1,133 @@
+//! What the runs of scripts met.
+
+use crate::parts::Parts;
+use crate::script_decode::{NO_OPERATION, NO_ROOM, NO_SPACE, NO_WIDTH, SHORT, ZEROS};
+use crate::script_left::Left;
+use second::Board;
+use std::collections::BTreeMap;
+
+/// Whether a call can be accepted in a script, and refused.
+const BOTH: &[bool] = &[false, true];
+const ACCEPTED: &[bool] = &[true];
+const REFUSED: &[bool] = &[false];
+
+/// The operations by number. One cell buffer is lent to a whole script, so that no reset
+/// can find it too short.
+const OPERATIONS: [(&str, &[bool]); 23] = [
+    ("load", BOTH),
+    ("reset", ACCEPTED),
+    ("write_image", BOTH),
+    ("find_pci_device", BOTH),
+    ("find_pci_classcode", BOTH),
+    ("read_config", BOTH),
+    ("fast_read_config", BOTH),
+    ("write_config", BOTH),
+    ("read_data", BOTH),
+    ("fast_read_data", BOTH),
+    ("write_data", BOTH),
+    ("bus_to_cpu", BOTH),
+    ("cpu_to_bus", BOTH),
+    ("list_window", BOTH),
+    ("get_resource", BOTH),
+    ("hook_interrupt", BOTH),
+    ("unhook_interrupt", BOTH),
+    ("list_chain", BOTH),
+    ("get_card_used", BOTH),
+    ("set_card_used", BOTH),
+    ("special_cycle", REFUSED),
+    ("get_routing", REFUSED),
+    ("set_interrupt", REFUSED),
+];
+
+const CAUSES: [&str; 5] = [SHORT, NO_OPERATION, NO_WIDTH, NO_SPACE, NO_ROOM];
+const AT_0: &str = "a script stopped at place 0";
+const AFTER_SEVERAL: &str = "a script stopped after several calls";
+const WHOLE: &str = "a whole script of several calls";
+const EMPTY: &str = "an empty script";
+const OTHER_CALLS: &str = "a changed header that says another call";
+const UNUSED: &str = "an own buffer that its call does not use";
+const OLD_PARTS: &str = "a script over parts that are not zero";
+
+const ALL: [&str; 7] = [AT_0, AFTER_SEVERAL, WHOLE, EMPTY, OTHER_CALLS, UNUSED, OLD_PARTS];
+
+#[derive(Default)]
+pub struct ScriptMet {
+    pub scripts: u64,
+    /// By name, and whether they were accepted.
+    calls: BTreeMap<(&'static str, bool), u64>,
+    met: BTreeMap<&'static str, u64>,
+}
+
+impl ScriptMet {
+    /// Counts the run of a script, what it left, the sound script that it was made of, and
+    /// the parts before it.
+    pub fn count(&mut self, script: &[u8], left: &Left, sound: &[u8], before: &Parts) {
+        self.scripts += 1;
+        for call in &left.calls {
+            *self.calls.entry((call.name, !call.refused)).or_default() += 1;
+        }
+        // A cause counts where there is no other.
+        if let [cause] = left.wrong[..] {
+            self.note(cause, true);
+        }
+        let (stopped, several) = (left.place < script.len(), left.calls.len() > 2);
+        self.note(AT_0, stopped && left.place == 0);
+        self.note(AFTER_SEVERAL, stopped && several);
+        self.note(WHOLE, !stopped && several);
+        self.note(EMPTY, script.is_empty());
+        self.note(OTHER_CALLS, says_another(script, left, sound));
+        self.note(UNUSED, has_unused(left));
+        let fresh = Parts::of(&Board::new());
+        self.note(OLD_PARTS, before.first_difference(&fresh).is_some());
+    }
+
+    fn note(&mut self, what: &'static str, met: bool) {
+        *self.met.entry(what).or_default() += u64::from(met);
+    }
+
+    /// What can occur and never did.
+    pub fn missing(&self) -> Vec<String> {
+        let mut missing = Vec::new();
+        for (name, outcomes) in OPERATIONS {
+            for accepted in outcomes.iter().filter(|a| !self.calls.contains_key(&(name, **a))) {
+                missing.push(in_script(name, *accepted));
+            }
+        }
+        let zeros = ZEROS.map(|(_, _, cause)| cause);
+        for what in CAUSES.into_iter().chain(zeros).chain(ALL) {
+            if self.met.get(what).is_none_or(|&times| times == 0) {
+                missing.push(what.to_string());
+            }
+        }
+        missing
+    }
+
+    pub fn print(&self) {
+        for ((name, accepted), times) in &self.calls {
+            println!("{}: {times}", in_script(name, *accepted));
+        }
+        for (what, times) in &self.met {
+            println!("{what}: {times}");
+        }
+    }
+}
+
+fn in_script(name: &str, accepted: bool) -> String {
+    format!("{name} {} in a script", if accepted { "accepted" } else { "refused" })
+}
+
+/// Whether the first byte that differs from the sound script's is one of a performed call's
+/// first 16, so that it is another call.
+fn says_another(script: &[u8], left: &Left, sound: &[u8]) -> bool {
+    let changed = script.iter().zip(sound).position(|(now, before)| now != before);
+    changed
+        .is_some_and(|at| left.calls.iter().any(|call| (call.place..call.place + 16).contains(&at)))
+}
+
+/// Whether some performed call that uses no buffer has one.
+fn has_unused(left: &Left) -> bool {
+    let places = left.calls.iter().map(|call| call.place).skip(1).chain([left.place]);
+    left.calls.iter().zip(places).any(|(call, next)| {
+        !["load", "write_image", "get_resource"].contains(&call.name) && next > call.place + 64
+    })
+}
