@@ -141,7 +141,7 @@ mod tests {
     fn causes() {
         let set = |sample, at: usize, byte| wrong_with(sample, |script| script[at] = byte);
         assert_eq!(wrong_with(0, |script| script.truncate(63)), [SHORT]);
-        assert_eq!(wrong_with(0, |script| drop(script.pop())), [NO_ROOM]);
+        assert_eq!(wrong_with(0, |script| script.truncate(script.len() - 1)), [NO_ROOM]);
         assert_eq!(set(0, OWN_LENGTH, 0x80), [NO_ROOM]);
         assert_eq!(set(0, 0, 0), [NO_OPERATION]);
         assert_eq!(set(0, 0, 24), [NO_OPERATION]);

@@ -131,3 +131,52 @@ fn has_unused(left: &Left) -> bool {
         !["load", "write_image", "get_resource"].contains(&call.name) && next > call.place + 64
     })
 }
+
+#[cfg(test)]
+mod tests {
+    use super::*;
+    use crate::script_encode::encoded;
+    use crate::script_sweep::samples;
+
+    /// What the run of a script met that was made of a sound one.
+    fn met_by(script: &[u8], sound: &[u8], before: &Parts) -> Vec<&'static str> {
+        let mut met = ScriptMet::default();
+        met.count(script, &Left::of(script, vec![0; 4096]), sound, before);
+        met.met.into_iter().filter(|(_, times)| *times > 0).map(|(what, _)| what).collect()
+    }
+
+    #[test]
+    fn scripts() {
+        let zero = Parts::of(&Board::new());
+        let sound: Vec<_> = samples()[..3].iter().flat_map(encoded).collect();
+        assert_eq!(met_by(&sound, &sound, &zero), [WHOLE, UNUSED]);
+        assert_eq!(met_by(&[], &sound, &zero), [EMPTY]);
+        assert_eq!(met_by(&sound[..63], &sound, &zero), [AT_0, SHORT]);
+        let longer = [&sound[..], &[0; 64]].concat();
+        assert_eq!(met_by(&longer, &sound, &zero), [AFTER_SEVERAL, NO_OPERATION, UNUSED]);
+        let load = encoded(&samples()[0]);
+        let mut other = load.clone();
+        other[0] = 3;
+        assert_eq!(met_by(&other, &load, &zero), [OTHER_CALLS]);
+        // Two causes: neither counts.
+        (other[0], other[1], other[3]) = (6, 3, 0);
+        other[59] = 1;
+        assert_eq!(met_by(&other, &load, &zero), [AT_0]);
+        let mut used = zero.clone();
+        used.used[31] = 1;
+        assert_eq!(met_by(&load, &load, &used), [OLD_PARTS]);
+    }
+
+    #[test]
+    fn operations() {
+        let mut met = ScriptMet::default();
+        assert_eq!(met.missing().len(), 42 + 12 + 7);
+        let sound: Vec<_> = samples().iter().flat_map(encoded).collect();
+        met.count(&sound, &Left::of(&sound, vec![0; 4096]), &sound, &Parts::of(&Board::new()));
+        let missing = met.missing();
+        assert!(!missing.contains(&in_script("special_cycle", false)));
+        for (name, outcomes) in OPERATIONS {
+            assert!(outcomes.iter().any(|o| !missing.contains(&in_script(name, *o))), "{name}");
+        }
+    }
+}
