@@ -1,4 +1,5 @@
-//! The C functions of the proved library, as host/pci_bios.c declares them too.
+//! The C functions of the proved library, as host/pci_bios.c declares them too, and the run
+//! of a script.
 
 use crate::parts::*;
 

@@ -1,4 +1,4 @@
-//! The call at the front of a script or why there is none, written from docs/SCRIPT.md alone.
+//! The call at the front of a script or why there is none, after docs/SCRIPT.md.
 
 use crate::access::{Access, DataAccess};
 use crate::calls::Call;

@@ -1,4 +1,4 @@
-//! Calls and answers as the bytes of a script, written from docs/SCRIPT.md alone.
+//! Calls and answers as the bytes of a script, after the tables of docs/SCRIPT.md.
 
 use crate::access::{Access, DataAccess};
 use crate::calls::{Answer, Call};
