@@ -47,8 +47,22 @@ const EMPTY: &str = "an empty script";
 const OTHER_CALLS: &str = "a changed header that says another call";
 const UNUSED: &str = "an own buffer that its call does not use";
 const OLD_PARTS: &str = "a script over parts that are not zero";
+const CUT_IN_HEADER: &str = "a script cut in a header after others";
+const CUT_IN_OWN: &str = "a script cut in an own buffer";
+const LENGTHENED: &str = "a script stopped where the sound one ends";
 
-const ALL: [&str; 7] = [AT_0, AFTER_SEVERAL, WHOLE, EMPTY, OTHER_CALLS, UNUSED, OLD_PARTS];
+const ALL: [&str; 10] = [
+    AT_0,
+    AFTER_SEVERAL,
+    WHOLE,
+    EMPTY,
+    OTHER_CALLS,
+    UNUSED,
+    OLD_PARTS,
+    CUT_IN_HEADER,
+    CUT_IN_OWN,
+    LENGTHENED,
+];
 
 #[derive(Default)]
 pub struct ScriptMet {
@@ -79,6 +93,10 @@ impl ScriptMet {
         self.note(UNUSED, has_unused(left));
         let fresh = Parts::of(&Board::new());
         self.note(OLD_PARTS, before.first_difference(&fresh).is_some());
+        let cut = sound.starts_with(script);
+        self.note(CUT_IN_HEADER, cut && left.wrong == [SHORT] && left.place > 0);
+        self.note(CUT_IN_OWN, cut && left.wrong == [NO_ROOM]);
+        self.note(LENGTHENED, stopped && left.place == sound.len() && script.starts_with(sound));
     }
 
     fn note(&mut self, what: &'static str, met: bool) {
@@ -148,13 +166,17 @@ mod tests {
     #[test]
     fn scripts() {
         let zero = Parts::of(&Board::new());
+        let load = encoded(&samples()[0]);
         let sound: Vec<_> = samples()[..3].iter().flat_map(encoded).collect();
         assert_eq!(met_by(&sound, &sound, &zero), [WHOLE, UNUSED]);
         assert_eq!(met_by(&[], &sound, &zero), [EMPTY]);
         assert_eq!(met_by(&sound[..63], &sound, &zero), [AT_0, SHORT]);
         let longer = [&sound[..], &[0; 64]].concat();
-        assert_eq!(met_by(&longer, &sound, &zero), [AFTER_SEVERAL, NO_OPERATION, UNUSED]);
-        let load = encoded(&samples()[0]);
+        let met = [AFTER_SEVERAL, LENGTHENED, NO_OPERATION, UNUSED];
+        assert_eq!(met_by(&longer, &sound, &zero), met);
+        assert_eq!(met_by(&load[..load.len() - 1], &load, &zero), [CUT_IN_OWN, AT_0, NO_ROOM]);
+        let cut = &sound[..load.len() + 63];
+        assert_eq!(met_by(cut, &sound, &zero), [CUT_IN_HEADER, SHORT]);
         let mut other = load.clone();
         other[0] = 3;
         assert_eq!(met_by(&other, &load, &zero), [OTHER_CALLS]);
@@ -170,7 +192,7 @@ mod tests {
     #[test]
     fn operations() {
         let mut met = ScriptMet::default();
-        assert_eq!(met.missing().len(), 42 + 12 + 7);
+        assert_eq!(met.missing().len(), 42 + 12 + 10);
         let sound: Vec<_> = samples().iter().flat_map(encoded).collect();
         met.count(&sound, &Left::of(&sound, vec![0; 4096]), &sound, &Parts::of(&Board::new()));
         let missing = met.missing();
