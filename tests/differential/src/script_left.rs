@@ -72,9 +72,10 @@ impl Left {
     fn first_answer(&self, proved: &[u8]) -> Option<String> {
         let difference = first_difference("script", proved, &self.script)?;
         let at = proved.iter().zip(&self.script).position(|(ours, theirs)| ours != theirs);
-        let before = |call: &&Performed| at.is_some_and(|at| call.place <= at);
-        let last = self.calls.iter().filter(before).next_back();
-        let of = last.map_or(String::new(), |call| format!("{} at {}, ", call.name, call.place));
-        Some(format!("{of}{difference}"))
+        let at = at.unwrap_or(self.place);
+        let call = self.calls.iter().rfind(|call| call.place <= at).filter(|_| at < self.place);
+        let from = "from the stop on".to_string();
+        let of = call.map_or(from, |call| format!("{} at {}", call.name, call.place));
+        Some(format!("{of}: {difference}"))
     }
 }
