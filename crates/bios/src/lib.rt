@@ -4,4 +4,5 @@ pub mod data_exports;
 pub mod exports;
 pub mod interrupt_exports;
 pub mod resource_exports;
+pub mod script_exports;
 mod width;

@@ -5,7 +5,7 @@ use crate::access::Access;
 use crate::arguments::handle;
 use crate::calls::Call;
 use crate::chain_calls::ChainCall;
-use crate::pair::Pair;
+use crate::model::Second;
 use crate::parts::Parts;
 use crate::random::Random;
 
@@ -14,8 +14,8 @@ pub const LINE: usize = 0x3C;
 
 /// A call on hooks, chains or used marks, or a write to a line register, which must not
 /// reroute.
-pub fn chain(random: &mut Random, pair: &Pair) -> Call {
-    let parts = pair.parts();
+pub fn chain(random: &mut Random, second: &Second) -> Call {
+    let parts = &second.parts;
     let handle = handle(random, parts);
     Call::Chain(match random.below(20) {
         0..=4 => hook(random, handle),

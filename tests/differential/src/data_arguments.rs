@@ -4,7 +4,7 @@
 use crate::access::DataAccess;
 use crate::arguments::{handle, lent, width};
 use crate::calls::Call;
-use crate::pair::Pair;
+use crate::model::Second;
 use crate::parts::Parts;
 use crate::random::Random;
 use second::{KeptWindow, RECORD_LENGTH, WINDOWS};
@@ -13,8 +13,8 @@ use second::{KeptWindow, RECORD_LENGTH, WINDOWS};
 const OFFSET: usize = 536;
 
 /// A data call; most are writes, as they leave cells that reads can tell apart.
-pub fn data(random: &mut Random, pair: &Pair) -> Call {
-    let access = access(random, pair);
+pub fn data(random: &mut Random, second: &Second) -> Call {
+    let access = access(random, second);
     match random.below(5) {
         0 => Call::ReadData(access),
         1 => Call::FastReadData(access),
@@ -23,9 +23,9 @@ pub fn data(random: &mut Random, pair: &Pair) -> Call {
 }
 
 /// A conversion of an address: any, or one about where the sum or difference wraps.
-pub fn conversion(random: &mut Random, pair: &Pair) -> Call {
-    let handle = handle(random, pair.parts());
-    let offset = offset(pair.parts(), handle);
+pub fn conversion(random: &mut Random, second: &Second) -> Call {
+    let handle = handle(random, &second.parts);
+    let offset = offset(&second.parts, handle);
     let (any, near) = (random.long(), random.below(8) as u32);
     let bound = random.pick(&[offset, offset.wrapping_neg(), 0]);
     let address = match random.one_in(3) {
@@ -46,8 +46,8 @@ pub fn offset(parts: &Parts, handle: u32) -> u32 {
     bytes.map_or(0, |&bytes| u32::from_be_bytes(bytes))
 }
 
-fn access(random: &mut Random, pair: &Pair) -> DataAccess {
-    let (parts, whole) = (pair.parts(), pair.cells().len());
+fn access(random: &mut Random, second: &Second) -> DataAccess {
+    let (parts, whole) = (&second.parts, second.cells.len());
     let window = window(random, parts);
     let width = width(random);
     let address = address(random, window);

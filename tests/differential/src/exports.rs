@@ -1,4 +1,5 @@
-//! The C functions of the proved library, as host/pci_bios.c declares them too.
+//! The C functions of the proved library, as host/pci_bios.c declares them too, and the run
+//! of a script.
 
 use crate::parts::*;
 
@@ -176,4 +177,17 @@ extern "C" {
     pub fn bios_special_cycle(bus: u8, message: u32) -> i32;
     pub fn bios_get_routing(handle: u32) -> i32;
     pub fn bios_set_interrupt(handle: u32, mode: u32) -> i32;
+    pub fn bios_run_script(
+        script: *mut u8,
+        script_length: usize,
+        header: *mut Header,
+        records: *mut Records,
+        registers: *mut Registers,
+        windows: *mut Windows,
+        cell_offsets: *mut CellOffsets,
+        hooks: *mut Hooks,
+        used: *mut UsedMarks,
+        cells: *mut u8,
+        cells_length: usize,
+    ) -> usize;
 }

@@ -35,6 +35,15 @@ mod resource_model;
 mod resource_proved;
 mod resource_sweep;
 mod runs;
+mod script_compose;
+mod script_damage;
+mod script_decode;
+mod script_encode;
+mod script_left;
+mod script_met;
+mod script_proved;
+mod script_runs;
+mod script_sweep;
 mod sweep;
 mod tally;
 mod used_met;
@@ -61,7 +70,8 @@ fn main() -> ExitCode {
     }
     match outcome {
         Ok(()) => {
-            println!("differential: {runs} runs, {} calls, equal", tally.calls);
+            let (calls, scripts) = (tally.calls, tally.scripts.scripts);
+            println!("differential: {runs} runs, {calls} calls, {scripts} scripts, equal");
             ExitCode::SUCCESS
         }
         Err(fault) => {
@@ -72,7 +82,7 @@ fn main() -> ExitCode {
 }
 
 /// Performs the sweeps, then the runs of as many seeds from the first on. Of the sweeps
-/// only the calls are counted: the runs must meet everything by themselves.
+/// only calls and scripts are counted: the runs must meet everything by themselves.
 fn compared(runs: u64, seed: u64, tally: &mut Tally) -> Result<(), String> {
     let mut swept = Tally::default();
     sweep::sweep(&mut swept)?;
@@ -81,8 +91,11 @@ fn compared(runs: u64, seed: u64, tally: &mut Tally) -> Result<(), String> {
     resource_sweep::sweep(&mut swept)?;
     chain_sweep::sweep(&mut swept)?;
     tally.calls = swept.calls;
+    tally.scripts.scripts = script_sweep::sweep()?;
     for run in 0..runs {
-        runs::run(seed.wrapping_add(run), tally)?;
+        let seed = seed.wrapping_add(run);
+        runs::run(seed, tally)?;
+        script_runs::run(seed, &mut tally.scripts)?;
     }
     match tally.missing() {
         missing if missing.is_empty() => Ok(()),

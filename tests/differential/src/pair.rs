@@ -22,6 +22,10 @@ impl Pair {
         Pair { proved, second, history: History::default() }
     }
 
+    pub fn second(&self) -> &Second {
+        &self.second
+    }
+
     pub fn parts(&self) -> &Parts {
         &self.second.parts
     }

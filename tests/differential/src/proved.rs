@@ -1,5 +1,6 @@
-//! The proved code behind its C functions. This and the same for descriptors and for chains
-//! (resource_proved.rs, chain_proved.rs) is the only unsafe code of the tests.
+//! The proved code behind its C functions. This and the same for descriptors, chains and
+//! scripts (resource_proved.rs, chain_proved.rs, script_proved.rs) is the only unsafe code
+//! of the tests.
 
 use crate::access::{Access, DataAccess};
 use crate::calls::{Answer, Call};
@@ -20,10 +21,10 @@ pub struct Proved {
     pub records: Guarded<Records>,
     pub registers: Guarded<Registers>,
     pub windows: Guarded<Windows>,
-    cell_offsets: Guarded<CellOffsets>,
+    pub cell_offsets: Guarded<CellOffsets>,
     pub hooks: Guarded<Hooks>,
     pub used: Guarded<UsedMarks>,
-    cells: GuardedBytes,
+    pub cells: GuardedBytes,
 }
 
 impl Proved {
@@ -83,7 +84,7 @@ impl Proved {
         kept(self.intact(), "lent parts or cells").map(|()| answer)
     }
 
-    fn intact(&self) -> bool {
+    pub fn intact(&self) -> bool {
         self.header.intact()
             && self.records.intact()
             && self.registers.intact()

@@ -3,14 +3,14 @@
 
 use crate::arguments::handle;
 use crate::calls::Call;
-use crate::pair::Pair;
+use crate::model::Second;
 use crate::random::Random;
 use crate::resource_case::ResourceCase;
 use second::DESCRIPTOR_LENGTH;
 
-pub fn resource(random: &mut Random, pair: &Pair) -> Call {
-    let handle = handle(random, pair.parts());
-    let needed = ResourceCase::new(pair.parts(), handle).needed();
+pub fn resource(random: &mut Random, second: &Second) -> Call {
+    let handle = handle(random, &second.parts);
+    let needed = ResourceCase::new(&second.parts, handle).needed();
     let (any, more) = (random.below(140), random.within(1..=DESCRIPTOR_LENGTH + 1));
     let length = match random.below(8) {
         0..=2 => needed,

@@ -8,6 +8,7 @@ use crate::chain_arguments::{chain, hook};
 use crate::chain_calls::ChainCall;
 use crate::damage::damaged;
 use crate::data_arguments::{conversion, data};
+use crate::model::Second;
 use crate::pair::Pair;
 use crate::parts::Parts;
 use crate::random::Random;
@@ -57,8 +58,8 @@ impl<'a> Run<'a> {
                 let cells = self.pair.cells().len();
                 self.change_parts(|random, parts| alter(random, parts, cells))
             }
-            22..=27 => self.several(|random, pair| configuration(random, pair.parts())),
-            28..=31 => self.several(|random, pair| search(random, pair.parts())),
+            22..=27 => self.several(|random, second| configuration(random, &second.parts)),
+            28..=31 => self.several(|random, second| search(random, &second.parts)),
             32..=42 => self.several(data),
             43 => self.several(conversion),
             44..=48 => self.several(chain),
@@ -84,10 +85,10 @@ impl<'a> Run<'a> {
 
     /// Calls of one kind in a row: what one leaves is the next one's board. On an empty
     /// board there is not much to ask.
-    fn several(&mut self, choose: fn(&mut Random, &Pair) -> Call) -> Result<(), String> {
+    fn several(&mut self, choose: fn(&mut Random, &Second) -> Call) -> Result<(), String> {
         let most = if self.pair.parts().functions() == 0 { 1 } else { 6 };
         for _ in 0..self.random.within(1..=most) {
-            let call = choose(&mut self.random, &self.pair);
+            let call = choose(&mut self.random, self.pair.second());
             self.call(call)?;
         }
         Ok(())
@@ -171,7 +172,7 @@ impl<'a> Run<'a> {
     /// Asks for the descriptors of functions, and walks over some of them.
     fn resources(&mut self) -> Result<(), String> {
         for _ in 0..self.random.within(1..=4) {
-            let call = resource(&mut self.random, &self.pair);
+            let call = resource(&mut self.random, self.pair.second());
             let answer = self.answer(call)?;
             if self.random.one_in(4) {
                 self.walk(&answer.out)?;
@@ -227,7 +228,7 @@ impl<'a> Run<'a> {
 }
 
 /// None, just enough for so many cells, one less, about the limit, or any length.
-fn cell_buffer_length(random: &mut Random, cells: usize) -> usize {
+pub fn cell_buffer_length(random: &mut Random, cells: usize) -> usize {
     let any = random.below(65_536);
     match random.below(10) {
         0 => 0,

@@ -4,6 +4,7 @@ use crate::calls::{Answer, Call};
 use crate::chain_history::History;
 use crate::model::Second;
 use crate::parts::Parts;
+use crate::script_met::ScriptMet;
 use crate::{chain_met, data_met, met, resource_met};
 use std::collections::BTreeMap;
 use std::ops::RangeInclusive;
@@ -41,6 +42,7 @@ const ANSWERS: [(&str, &[RangeInclusive<i64>]); 25] = [
 #[derive(Default)]
 pub struct Tally {
     pub calls: u64,
+    pub scripts: ScriptMet,
     answers: BTreeMap<(&'static str, i64), u64>,
     met: BTreeMap<&'static str, u64>,
 }
@@ -86,6 +88,7 @@ impl Tally {
                 missing.push(what.to_string());
             }
         }
+        missing.extend(self.scripts.missing());
         missing
     }
 
@@ -96,5 +99,6 @@ impl Tally {
         for (what, times) in &self.met {
             println!("{what}: {times}");
         }
+        self.scripts.print();
     }
 }
