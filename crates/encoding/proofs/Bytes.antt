@@ -20,16 +20,6 @@ use Rattle.reference.specs.declared.Answer.{Answer}
 use Rattle.reference.specs.declared.Call.{Call}
 use Rattle.encoding.specs.Format.{bits, valueBytes, answerBytes, fieldsOf, candidate, headerOf, encoded, fieldsAt, ownLength, sameBytes, decoded}
 
--- four stores put a number
-pub long-put : (l : List ℕ) (at v : ℕ)
-    → set (set (set (set l at (v / 16777216 % 256)) (at + 1) (v / 65536 % 256)) (at + 2) (v / 256 % 256)) (at + 3) (v % 256) ≡ sets l at (bigBytes 4 v)
-unfolding tableFrom
-long-put l at v =
-    let one : at + 1 ≡ suc at = omega arith in
-    let two : at + 2 ≡ suc (suc at) = omega arith in
-    let three : at + 3 ≡ suc (suc (suc at)) = omega arith in
-    rw (one, two, three, div-one v)
-
 pub header-put : (f : Fields) (own : ℕ) {h a b all : List ℕ}
     → h ≡ sets (f .operation ∷ f .width ∷ f .space ∷ f .register ∷ replicate 60 0) 4 (bigBytes 4 (f .handle))
     → a ≡ sets h 8 (bigBytes 4 (f .a)) → b ≡ sets a 12 (bigBytes 4 (f .b)) → all ≡ sets b 60 (bigBytes 4 own) → all ≡ headerOf f own

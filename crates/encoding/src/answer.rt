@@ -2,8 +2,9 @@
 use crate::encode::CALL_HEADER;
 use crate::encode::CallHeader;
 use crate::encode::OWN_LENGTH;
-use crate::put::put_long;
 use crate::put::put_value;
+use numbers::number::Width;
+use numbers::number::put_big;
 use reference::Answer;
 ghost use mathlib.Core.Path.{_≡_};
 ghost use Rattle.encoding.specs.Format.{bits, answerBytes};
@@ -27,7 +28,7 @@ pub fn answer_bytes(answer: Answer, own: u32) -> CallHeader
     let refused = answer.refused;
     let values = answer.values;
     let mut out = [0u8; CALL_HEADER];
-    put_long(&mut out, 0, bits(number));
+    put_big(&mut out, 0, Width::Long, bits(number));
     out[4] = refused as u8;
     put_value(&mut out, 8, values[0]);
     put_value(&mut out, 16, values[1]);
@@ -35,6 +36,6 @@ pub fn answer_bytes(answer: Answer, own: u32) -> CallHeader
     put_value(&mut out, 32, values[3]);
     put_value(&mut out, 40, values[4]);
     put_value(&mut out, 48, values[5]);
-    put_long(&mut out, OWN_LENGTH, own);
+    put_big(&mut out, OWN_LENGTH, Width::Long, own);
     out
 }

@@ -1,7 +1,8 @@
 // The header of a call.
 use crate::fields::Fields;
 use crate::fields::fields_of;
-use crate::put::put_long;
+use numbers::number::Width;
+use numbers::number::put_big;
 use reference::Call;
 ghost use mathlib.Core.Path.{_≡_};
 ghost use Rattle.encoding.specs.Format.{headerOf, encoded};
@@ -22,10 +23,10 @@ pub(crate) fn header_of(f: Fields, own: u32) -> CallHeader
     out[1] = f.width;
     out[2] = f.space;
     out[3] = f.register;
-    put_long(&mut out, 4, f.handle);
-    put_long(&mut out, 8, f.a);
-    put_long(&mut out, 12, f.b);
-    put_long(&mut out, OWN_LENGTH, own);
+    put_big(&mut out, 4, Width::Long, f.handle);
+    put_big(&mut out, 8, Width::Long, f.a);
+    put_big(&mut out, 12, Width::Long, f.b);
+    put_big(&mut out, OWN_LENGTH, Width::Long, own);
     out
 }
 

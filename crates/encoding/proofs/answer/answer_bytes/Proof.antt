@@ -49,5 +49,5 @@ answer-bytes-spec =
     let start = n .before .before .before .before .before in
     answer-put (start .args .answer) _ _
     (n .before .bits .ensures ∙ ap bits (back (start .args .answer .number) (record { sfits = n .before .before .before .before .struct-told .given .0 .1 })))
-    (n .put-long .ensures) (v₀ .put-value .ensures) (v₁ .put-value2 .ensures) (v₂ .put-value3 .ensures) (v₃ .put-value4 .ensures) (v₄ .put-value5 .ensures)
-    (v₅ .put-value6 .ensures) (c .before .put-long2 .ensures)))
+    (n .put-big .ensures) (v₀ .put-value .ensures) (v₁ .put-value2 .ensures) (v₂ .put-value3 .ensures) (v₃ .put-value4 .ensures) (v₄ .put-value5 .ensures)
+    (v₅ .put-value6 .ensures) (c .before .put-big2 .ensures)))

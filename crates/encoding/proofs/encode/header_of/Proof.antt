@@ -21,5 +21,5 @@ header-of-spec =
     (λ c. search needs)
     (λ c κs. search needs)
     (λ c.
-    header-put _ _ (c .before .before .before .before .before .before .before .before .before .before .put-long .ensures)
-    (c .before .before .before .before .before .before .before .put-long2 .ensures) (c .before .before .before .before .put-long3 .ensures) (c .before .put-long4 .ensures)))
+    header-put _ _ (c .before .before .before .before .before .before .before .before .before .before .put-big .ensures)
+    (c .before .before .before .before .before .before .before .put-big2 .ensures) (c .before .before .before .before .put-big3 .ensures) (c .before .put-big4 .ensures)))

@@ -15,4 +15,4 @@ put-value-spec =
     (λ c κs. search needs)
     (λ c. search needs)
     (λ c.
-    value-put _ _ _ (c .before .before .before .before .before .before .put-long .ensures) (c .before .before .put-long2 .ensures)))
+    value-put _ _ _ (c .before .before .before .before .before .before .put-big .ensures) (c .before .before .put-big2 .ensures)))
