@@ -18,7 +18,7 @@ use numbers::number::put_big;
 ghost use mathlib.Core.Path.{_≡_};
 ghost use Rattle.numbers.specs.Numbers.{bytes};
 ghost use Rattle.find_window.specs.Find.{spaceNumber};
-ghost use Rattle.access.specs.Cells.{valueAt, cellsAfter};
+ghost use Rattle.access.specs.Cells.{valueAt};
 ghost use Rattle.access.specs.Data.{readData, fastReadData, wrote, writeData};
 
 // The value in cells, which are read high byte first.

@@ -3,8 +3,8 @@ use Prim.Native.Nat.{ℕ}
 use mathlib.Core.Path.{_≡_}
 use mathlib.Core.List.{List}
 use Rattle.window_list.specs.Windows.{Window}
-use Rattle.window_list.specs.Listing.{numberOf, valuesOf, Lists}
-use Rattle.window_list.specs.declared.listing.Listing.{Listing}
+use Rattle.window_listing.specs.Listing.{numberOf, valuesOf, Lists}
+use Rattle.window_listing.specs.declared.listing.Listing.{Listing}
 use Rattle.interrupt.specs.Hooks.{Hook}
 use Rattle.interrupt.specs.Listing.{chainNumberOf, chainValuesOf, ListsChain}
 use Rattle.interrupt.specs.declared.listing.ChainListing.{ChainListing}

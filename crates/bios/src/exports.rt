@@ -12,7 +12,7 @@ use image::write::write_image;
 use load::calls::load;
 use load::calls::reset;
 use reference::Values;
-use window_list::listing::list_window;
+use window_listing::listing::list_window;
 ghost use mathlib.Core.Path.{_≡_};
 ghost use Rattle.board.specs.Parts.{parts};
 ghost use Rattle.window_list.specs.Kept.{unpacked};

@@ -14,8 +14,8 @@ use board::layout::Registers;
 use board::layout::WINDOWS;
 use board::layout::Windows;
 use numbers::number::put_byte;
-use window_list::listing::list_window;
 use window_list::refresh::refresh;
+use window_listing::listing::list_window;
 
 // Puts a longword, least byte first.
 pub(crate) fn put_long(s: &mut [u8], at: usize, v: u32) {

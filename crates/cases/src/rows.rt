@@ -3,8 +3,8 @@ use board::read::FastRead;
 use board::read::Read;
 use board::status::Status;
 use libc::STDOUT_FILENO;
-use window_list::listing::ListedWindow;
-use window_list::listing::Listing;
+use window_listing::listing::ListedWindow;
+use window_listing::listing::Listing;
 ghost use lib.ListN.{length};
 ghost use Prim.Native.Nat.{_≤_};
 

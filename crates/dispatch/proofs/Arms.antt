@@ -8,7 +8,6 @@ use Rattle.board.specs.Parts.{Parts, withRegisters, withCells, withHooks, withU
 use Rattle.board.specs.declared.address.BusAddress.{BusAddress}
 use Rattle.numbers.specs.declared.number.Width.{Width}
 use Rattle.board.specs.declared.status.Status.{Status}
-use Rattle.window_list.specs.Listing.{numberOf, valuesOf, Lists}
 use Rattle.config.specs.Write.{wrote, writeConfig}
 use Rattle.access.specs.Data.{writeData, wrote as dataWrote}
 use Rattle.find_window.specs.Find.{spaceNumber}

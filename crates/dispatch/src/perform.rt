@@ -39,7 +39,7 @@ use load::calls::reset;
 use reference::Answer;
 use reference::Call;
 use resource::resource::get_resource;
-use window_list::listing::list_window;
+use window_listing::listing::list_window;
 ghost use mathlib.Core.Path.{_≡_};
 ghost use Rattle.board.specs.Parts.{parts};
 ghost use Rattle.reference.specs.State.{next, step};

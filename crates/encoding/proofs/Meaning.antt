@@ -10,7 +10,7 @@ use Rattle.numbers.specs.Tables.{tableFrom}
 use Rattle.numbers.proofs.Numbers.{big-bytes}
 use Rattle.encoding.specs.declared.decode.Decoded.the-variants.{Known, Malformed}
 use Rattle.encoding.specs.declared.fields.Fields.{Fields}
-use Rattle.encoding.specs.Format.{fields, fieldsOf, candidate, headerOf, encoded, fieldsAt, ownLength, sameBytes, decoded}
+use Rattle.encoding.specs.Format.{fieldsOf, candidate, headerOf, encoded, fieldsAt, ownLength, sameBytes, decoded}
 use Rattle.encoding.specs.Meaning.{U32, EncodeDecode, DecodeEncode}
 use Rattle.encoding.proofs.Bytes.{same-refl, same-equal}
 use Rattle.encoding.proofs.Calls.{Fits, picked, fits}

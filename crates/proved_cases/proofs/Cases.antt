@@ -3,7 +3,7 @@ use mathlib.Core.Path.{refl}
 use Rattle.numbers.specs.Numbers.{little, big, reversed}
 use Rattle.numbers.specs.Tables.{tableFrom}
 use Rattle.window_list.specs.Windows.{windowAt, gather, openWindows, put, putAll, listOf}
-use Rattle.window_list.specs.Listing.{listedNumber, listedValues}
+use Rattle.window_listing.specs.Listing.{listedNumber, listedValues}
 use Rattle.config.specs.Target.{target}
 use Rattle.search.specs.Search.{matching, searchNumber}
 use Rattle.find_window.specs.Find.{inList, find}

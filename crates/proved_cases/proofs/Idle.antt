@@ -8,19 +8,17 @@ use lib.Dec.{ltb}
 use borrow.Author.Tests.{lt-ltb}
 use lib.IntN.{ℤ, pos, negsuc, natAbs, pos-ne-negsuc}
 use lib.ListN.{getD}
-use Rattle.numbers.specs.Numbers.{little, big, reversed}
+use Rattle.numbers.specs.Numbers.{little, big}
 use Rattle.numbers.specs.Tables.{tableFrom}
 use Rattle.window_list.specs.Windows.{windowAt, gather, openWindows, put, putAll, listOf}
-use Rattle.window_list.specs.Listing.{listedNumber, listedValues}
+use Rattle.window_listing.specs.Listing.{listedNumber, listedValues}
 use Rattle.config.specs.Target.{target}
-use Rattle.search.specs.Search.{matching, searchNumber}
-use Rattle.find_window.specs.Find.{inList, find}
 use Rattle.window_entry.specs.Entry.{entryOk}
 use Rattle.record.specs.Record.{recordOk}
 use Rattle.cells.specs.Cells.{cellsBefore}
 use Rattle.image.specs.Image.{sum}
 use Rattle.image.specs.Refusals.{firstBad, firstRefusal}
-use Rattle.reference.specs.Reference.{placeIn, split, verdict, referenceStep}
+use Rattle.reference.specs.Reference.{split, verdict, referenceStep}
 use Rattle.reference.specs.Run.{Heard}
 use Rattle.proved_cases.specs.B1.{stored, b1}
 use Rattle.proved_cases.specs.Cases.{Holds, b1List, p1, p2, p6, p10, p11}

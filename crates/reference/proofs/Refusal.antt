@@ -16,7 +16,7 @@ use Rattle.board.specs.Statuses.{deviceNotFound, badRegisterNumber, badHandle}
 use Rattle.board.specs.Handles.{functionCount, isHandle}
 use Rattle.window_list.specs.Windows.{Window}
 use Rattle.window_list.specs.Kept.{unpacked}
-use Rattle.window_list.specs.Listing.{listing, numberOf, valuesOf}
+use Rattle.window_listing.specs.Listing.{listing, numberOf, valuesOf}
 use Rattle.config.specs.Target.{target}
 use Rattle.config.specs.declared.target.Target.{Target}
 use Rattle.config.specs.declared.target.Target.the-variants.{Function, Refused}

@@ -12,7 +12,7 @@ use Rattle.numbers.proofs.Tables.{table-constant}
 use Rattle.window_list.specs.Windows.{gather, openWindows, putAll, listOf}
 use Rattle.window_list.specs.Kept.{keptList}
 use Rattle.window_list.proofs.KeptArray.{kept-of}
-use Rattle.window_list.proofs.Answers.{number-is, values-are}
+use Rattle.window_listing.proofs.Answers.{number-is, values-are}
 use Rattle.cells.specs.Cells.{cellsBefore, total, offsetsOf}
 use Rattle.image.specs.Image.{imageSize, imageOf}
 use Rattle.load.specs.Load.{padded, load, reset}

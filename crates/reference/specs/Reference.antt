@@ -9,7 +9,7 @@ use Rattle.numbers.specs.Numbers.{byteAt, bytes, big}
 use Rattle.board.specs.Layout.{bases, recordSize, masksAt, entriesAt, entrySize, offsetAt, dmaOffsetAt, baseRegister}
 use Rattle.board.specs.Statuses.{successful, funcNotSupported, bufferTooSmall}
 use Rattle.window_list.specs.Windows.{Window, listOf}
-use Rattle.window_list.specs.Listing.{listedNumber, listedValues}
+use Rattle.window_listing.specs.Listing.{listedNumber, listedValues}
 use Rattle.config.specs.Target.{target}
 use Rattle.config.specs.Read.{readOf, fastReadOf}
 use Rattle.config.specs.Write.{written}

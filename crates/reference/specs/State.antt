@@ -7,7 +7,7 @@ use Rattle.board.specs.Handles.{functionCount}
 use Rattle.board.specs.Layout.{registerByte}
 use Rattle.numbers.specs.Numbers.{bytes}
 use Rattle.window_list.specs.Kept.{unpacked}
-use Rattle.window_list.specs.Listing.{listing, numberOf, valuesOf}
+use Rattle.window_listing.specs.Listing.{listing, numberOf, valuesOf}
 use Rattle.config.specs.Read.{readConfig, fastReadConfig}
 use Rattle.search.specs.Search.{devices, classes, searched, foundNumber}
 use Rattle.config.specs.Write.{writeConfig}

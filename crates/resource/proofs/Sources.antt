@@ -2,10 +2,10 @@
 use Prim.Native.Nat.{ℕ, zero, suc, _+_, _<_, _≤_}
 use native.Mathlib.Omega.{arith}
 use mathlib.Core.Bool.{Bool, true, false, cond}
-use mathlib.Core.List.{List, [], _∷_}
+use mathlib.Core.List.{_∷_}
 use mathlib.Core.Path.{_≡_, refl}
 use Rattle.board.specs.Layout.{bases}
-use Rattle.resource.specs.Resource.{isWindow, windowsFrom, windowBases, Source, descriptorOf, described, descriptors, resource}
+use Rattle.resource.specs.Resource.{isWindow, windowsFrom, Source, descriptorOf, described, resource}
 use Rattle.resource.specs.Meaning.{Alike, ResourceDependsOn}
 
 module _ (s t : Source) (a : Alike s t) where

@@ -1,5 +1,5 @@
 -- A walk through what an accepted call wrote hands back the descriptors written.
-use Prim.Native.Nat.{ℕ, zero, suc, _+_, _*_, _<_, _≤_}
+use Prim.Native.Nat.{ℕ, suc, _+_, _<_, _≤_}
 use native.Mathlib.Omega.{arith}
 use native.Mathlib.Nat.{zero-add}
 use mathlib.Core.Bool.{Bool, true, false, cond}
@@ -7,7 +7,7 @@ use mathlib.Core.List.{List, [], _∷_, _++_, append-assoc}
 use mathlib.Core.Path.{_≡_, refl, sym, _∙_, ap}
 use lib.Dec.{eqb, eqb·suc-zero}
 use lib.ListN.{length, getD, drop, length-append}
-use lib.Seq.{sets, sets-eq}
+use lib.Seq.{sets-eq}
 use borrow.Author.Tests.{le-leb}
 use Rattle.board.specs.Layout.{bases}
 use Rattle.window_list.specs.Windows.{spaceOf}

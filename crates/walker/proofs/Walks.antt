@@ -2,7 +2,7 @@
 use Prim.Native.Nat.{ℕ, zero, suc, _+_, _-_, _*_, _<_, _≤_}
 use native.Mathlib.Omega.{arith}
 use mathlib.Core.Bool.{Bool, true, false, not, _&&_, cond, true≢false}
-use mathlib.Core.List.{List, [], _∷_}
+use mathlib.Core.List.{List, _∷_}
 use mathlib.Core.Path.{_≡_, refl, sym, _∙_, ap}
 use lib.Dec.{leb}
 use lib.ListN.{length, drop}
@@ -13,7 +13,7 @@ use Rattle.walker.specs.declared.step.Step.{Step}
 use Rattle.walker.specs.declared.step.Step.the-variants.{Found, Ended}
 use Rattle.resource.specs.Descriptor.{size, fieldsAt, isLast}
 use Rattle.walker.specs.Walk.{following, stepAt, position, handed, walkFor, walk, stands}
-use Rattle.walker.specs.Meaning.{Walks, WalkMeans}
+use Rattle.walker.specs.Meaning.{WalkMeans}
 
 -- the next position is at least 20 bytes on
 following-on : (n at : ℕ) (d : Descriptor) → at + size ≤ n → at + size ≤ following n at d

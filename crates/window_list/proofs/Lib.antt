@@ -8,4 +8,3 @@ pub mod Insert
 pub mod Sweep
 pub mod KeptArray
 pub mod Unpacked
-pub mod Answers

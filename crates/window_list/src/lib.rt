@@ -1,5 +1,4 @@
-// The window list: base registers decoded, the kept list refreshed, windows listed.
+// The window list: base registers decoded, the kept list refreshed.
 mod decode;
 pub mod kept;
-pub mod listing;
 pub mod refresh;

@@ -16,9 +16,9 @@ use image::check::IMAGE;
 use libc::STDIN_FILENO;
 use libc::STDOUT_FILENO;
 use load::calls::load;
-use window_list::listing::ListedWindow;
-use window_list::listing::Listing;
-use window_list::listing::list_window;
+use window_listing::listing::ListedWindow;
+use window_listing::listing::Listing;
+use window_listing::listing::list_window;
 ghost use mathlib.Core.Path.{_≡_};
 ghost use lib.ListN.{length};
 

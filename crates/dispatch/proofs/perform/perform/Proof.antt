@@ -1,7 +1,6 @@
 -- `perform`: each arm by the contract of its call.
 use mathlib.Core.Path.{refl, sym}
-use denote.Ref.{now}
-use Rattle.window_list.specs.Listing.{numberOf, valuesOf}
+use Rattle.window_listing.specs.Listing.{numberOf, valuesOf}
 use Rattle.search.proofs.Searches.{search-number}
 use Rattle.interrupt.specs.Listing.{chainNumberOf, chainValuesOf}
 use Rattle.reference.specs.Answers.{answer, ofStatus, ofSearch, ofRead, ofFastRead, ofToCpu, ofToBus, ofChain, ofUsed}

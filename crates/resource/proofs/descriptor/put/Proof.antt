@@ -1,6 +1,5 @@
 -- `put`: the fields one after the other.
 use borrow.Author.Needs.{needs}
-use native.Mathlib.Omega.{arith}
 use Rattle.resource.proofs.Fields.{stored-fields}
 use Rattle.resource.proofs.descriptor.put.Statement.{statement}
 use Rattle.resource.proofs.descriptor.put.Tie as tie

@@ -1,5 +1,5 @@
 -- `shown_order`: the order where it is one of those there are, else 0.
-use mathlib.Core.Path.{_≡_, sym}
+use mathlib.Core.Path.{_≡_}
 use Rattle.resource.specs.Descriptor.{shownOrder}
 use Rattle.resource.proofs.Fields.{shown-small}
 use native.Mathlib.Omega.{arith}

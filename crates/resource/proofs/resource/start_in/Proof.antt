@@ -6,7 +6,6 @@ use Rattle.window_list.specs.Kept.{unpacked}
 use Rattle.resource.specs.Resource.{startIn}
 use Rattle.resource.proofs.Turns.{start-none, start-here, start-on, start-end}
 use borrow.Author.Needs.{needs}
-use native.Mathlib.Omega.{arith}
 use Rattle.resource.proofs.resource.start_in.Statement.{statement}
 use Rattle.resource.proofs.resource.start_in.Tie as tie
 

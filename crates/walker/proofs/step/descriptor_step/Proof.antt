@@ -3,7 +3,6 @@ use Prim.Native.Nat.{_+_}
 use lib.ListN.{length}
 use borrow.Author.Tests.{le-leb, lt-leb}
 use Rattle.resource.specs.Descriptor.{size}
-use borrow.Author.Needs.{needs}
 use native.Mathlib.Omega.{arith}
 use Rattle.walker.proofs.step.descriptor_step.Statement.{statement}
 use Rattle.walker.proofs.step.descriptor_step.Tie as tie

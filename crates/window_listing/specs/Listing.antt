@@ -7,11 +7,11 @@ use lib.Dec.{eqb}
 use lib.IntN.{ℤ}
 use lib.ListN.{replicate}
 use Rattle.board.specs.Statuses.{successful, deviceNotFound}
-use Rattle.window_list.specs.declared.listing.ListedWindow.{ListedWindow}
-use Rattle.window_list.specs.declared.listing.ListedWindow.the-variants.{Memory, Io}
-use Rattle.window_list.specs.declared.listing.Listing.{Listing}
-use Rattle.window_list.specs.declared.listing.Listing.the-variants.{Found, Refused}
+use Rattle.window_listing.specs.declared.listing.ListedWindow.{ListedWindow}
+use Rattle.window_listing.specs.declared.listing.ListedWindow.the-variants.{Memory, Io}
+use Rattle.window_listing.specs.declared.listing.Listing.{Listing}
+use Rattle.window_listing.specs.declared.listing.Listing.the-variants.{Found, Refused}
 use Rattle.window_list.specs.Windows.{Window}
 
 abbrev pub inSpace : Bool → ℕ → ℕ → ListedWindow
 inSpace true start length = Io (record { 0 = start }) length

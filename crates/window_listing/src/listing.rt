@@ -1,18 +1,18 @@
 // The listing: the windows of the kept list, one by one.
-use crate::kept::base_of;
-use crate::kept::handle_of;
-use crate::kept::is_contested;
-use crate::kept::is_io;
-use crate::kept::length_of;
-use crate::kept::start_of;
 use board::address::BusAddress;
 use board::layout::Windows;
 use board::status::Status;
 use numbers::number::u64_at;
+use window_list::kept::base_of;
+use window_list::kept::handle_of;
+use window_list::kept::is_contested;
+use window_list::kept::is_io;
+use window_list::kept::length_of;
+use window_list::kept::start_of;
 ghost use mathlib.Core.Path.{_≡_};
 ghost use lib.ListN.{length};
 ghost use Rattle.window_list.specs.Kept.{unpack, unpacked};
-ghost use Rattle.window_list.specs.Listing.{inSpace, found, Lists};
+ghost use Rattle.window_listing.specs.Listing.{inSpace, found, Lists};
 
 // A window in its space, with its start and length.
 pub enum ListedWindow {

@@ -1,6 +1,6 @@
 -- `in_space`: each arm makes the window that the definition picks.
-use Rattle.window_list.proofs.listing.in_space.Statement.{statement}
-use Rattle.window_list.proofs.listing.in_space.Tie as tie
+use Rattle.window_listing.proofs.listing.in_space.Statement.{statement}
+use Rattle.window_listing.proofs.listing.in_space.Tie as tie
 
 returns : tie.Need-returns
 returns c = simp (c .if1 .taken)

@@ -1,7 +1,7 @@
 -- `listed`: each field is read as the definition reads it.
 use borrow.Author.Needs.{needs}
-use Rattle.window_list.proofs.listing.listed.Statement.{statement}
-use Rattle.window_list.proofs.listing.listed.Tie as tie
+use Rattle.window_listing.proofs.listing.listed.Statement.{statement}
+use Rattle.window_listing.proofs.listing.listed.Tie as tie
 
 is-io-requires : tie.Need-is-io-requires
 is-io-requires c κs = search needs

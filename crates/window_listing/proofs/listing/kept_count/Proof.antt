@@ -3,11 +3,11 @@ use Prim.Native.Nat.{_+_, _-_, _≤_}
 use mathlib.Core.Path.{_≡_, sym, _∙_}
 use native.Mathlib.Omega.{arith}
 use lib.ListN.{length, drop}
 use Rattle.window_list.specs.Kept.{unpacked}
-use Rattle.window_list.proofs.Answers.{counted-none, counted-one, counted-end}
+use Rattle.window_listing.proofs.Answers.{counted-none, counted-one, counted-end}
 use borrow.Author.Needs.{needs}
-use Rattle.window_list.proofs.listing.kept_count.Statement.{statement}
-use Rattle.window_list.proofs.listing.kept_count.Tie as tie
+use Rattle.window_listing.proofs.listing.kept_count.Statement.{statement}
+use Rattle.window_listing.proofs.listing.kept_count.Tie as tie
 
 abbrev Inv-loop : tie.InvT-loop
 Inv-loop list j₀ j = (j ≤ length list) × (j + length (unpacked (drop j list)) ≡ length (unpacked list))

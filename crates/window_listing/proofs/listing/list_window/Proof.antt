@@ -1,10 +1,10 @@
 -- `list_window`: the count of windows tells the end, and before it the number at the place says the window.
 use mathlib.Core.Path.{_∙_}
 use native.Mathlib.Omega.{arith}
-use Rattle.window_list.proofs.Answers.{lists-past, lists-at}
+use Rattle.window_listing.proofs.Answers.{lists-past, lists-at}
 use borrow.Author.Needs.{needs}
-use Rattle.window_list.proofs.listing.list_window.Statement.{statement}
-use Rattle.window_list.proofs.listing.list_window.Tie as tie
+use Rattle.window_listing.proofs.listing.list_window.Statement.{statement}
+use Rattle.window_listing.proofs.listing.list_window.Tie as tie
 
 kept-count-requires : tie.Need-kept-count-requires
 kept-count-requires c κs = search needs

@@ -7,12 +7,12 @@ use mathlib.Core.Path.{_≡_, refl, ap, _∙_}
 use mathlib.Core.List.{List, [], _∷_}
 use lib.ListN.{length, getD, drop}
 use Rattle.board.specs.Statuses.{deviceNotFound}
-use Rattle.window_list.specs.declared.listing.Listing.{Listing}
-use Rattle.window_list.specs.declared.listing.Listing.the-variants.{Found, Refused}
+use Rattle.window_listing.specs.declared.listing.Listing.{Listing}
+use Rattle.window_listing.specs.declared.listing.Listing.the-variants.{Found, Refused}
 use Rattle.window_list.specs.Windows.{Window}
 use Rattle.window_list.specs.Kept.{unpack, unpacked}
-use Rattle.window_list.specs.Listing.{inSpace, found, listing, numberOf, valuesOf, listedNumber, listedValues, Lists}
+use Rattle.window_listing.specs.Listing.{inSpace, found, listing, numberOf, valuesOf, listedNumber, listedValues, Lists}
 use Rattle.window_list.proofs.Unpacked.{unpacked-none, unpacked-one, unpacked-end}
 
 -- counting the windows of a kept list from place j on
 pub counted-none : (l : List ℕ) (j : ℕ) → j < length l → getD l j 0 / 2 % 2 ^ 17 ≡ 0 → length (unpacked (drop j l)) ≡ 0

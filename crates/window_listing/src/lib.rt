@@ -1,0 +1,2 @@
+// The listing of windows.
+pub mod listing;
