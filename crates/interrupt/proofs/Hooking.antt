@@ -44,6 +44,10 @@ module _ (records : List ℕ) where
   pub none-on : (line : ℕ) (h : Hook) → h .handle ≡ 0 → onLine records line h ≡ false
   none-on line h z = rw (eq-eqb (h .handle) 0 z)
 
+  -- what has one is on its function's line
+  pub new-on : (line : ℕ) (new : Hook) → (new .handle ≡ 0 → ⊥) → onLine records line new ≡ eqb line (lineOf records (new .handle))
+  new-on line new n = rw (ne-eqb (new .handle) 0 n) (same-test (lineOf records (new .handle)) line)
+
   none-up-to : (line : ℕ) (h : Hook) → h .handle ≡ 0 → upToLine records line h ≡ false
   none-up-to line h z = rw (eq-eqb (h .handle) 0 z)
 
@@ -78,9 +82,6 @@ module _ (records : List ℕ) where
         chosen-none (onLine records line) place (15 - place) (hookAt hooks)
         (λ j h. not-on line (hookAt hooks (place + j)) (rw (← e) (found-last .after (place + j) (omega arith) (omega arith))))
 
-    new-on : (line : ℕ) → (new .handle ≡ 0 → ⊥) → onLine records line new ≡ eqb line own
-    new-on line n = rw (ne-eqb (new .handle) 0 n) (same-test own line)
-
     pub hooked-last : (line : ℕ) → (new .handle ≡ 0 → ⊥)
         → chainOf records (hooked records hooks new) line
         ≡ cond (eqb line own) (chainOf records hooks line ++ new ∷ []) (chainOf records hooks line)
@@ -88,15 +89,15 @@ module _ (records : List ℕ) where
         let t = onLine records line in
         ap (chosen t) (hooked-entries (hookAt hooks) place new place-room)
         ∙ put-last t (entriesFrom 0 place (hookAt hooks)) (entriesFrom place (15 - place) (hookAt hooks)) new (hookAt hooks 15) (none-on line (hookAt hooks 15) free)
-        (λ e. rest-none line (sym (eqb-true line own (sym (new-on line n) ∙ e))))
-        ∙ rw (new-on line n, ← but-last (hookAt hooks) place place-room)
+        (λ e. rest-none line (sym (eqb-true line own (sym (new-on line new n) ∙ e))))
+        ∙ rw (new-on line new n, ← but-last (hookAt hooks) place place-room)
 
 -- a negative number is no success
 pub no-success : (n : ℕ) → _≡_ {A = Status} (record { 0 = negsuc n }) successful → ⊥
 no-success n e = let z : _≡_ {A = ℕ} 0 1 = cc (ap (λ (s : Status). s .0) e) in omega arith
 
 -- a hook is accepted where its function is there and no check fails
-accepted : (good routed free : Bool) (after before : List ℕ)
+pub accepted : (good routed free : Bool) (after before : List ℕ)
     → hookChecks good routed free (changed successful after) (λ s. changed s before) .status ≡ successful
     → (good ≡ true) × ((free ≡ true) × (hookChecks good routed free (changed successful after) (λ s. changed s before) .hooks ≡ after))
 accepted true true true after before e = (refl, (refl, refl))

@@ -5,6 +5,7 @@ pub mod Listings
 pub mod Moves
 pub mod Hooking
 pub mod Unhooking
+pub mod Ordered
 pub mod Packed
 pub mod Repacked
 pub mod Room

@@ -60,6 +60,21 @@ module _ (handle : ℕ) where
         by true false e f ih = without-on h (chosen t l) f ∙ ap (λ (m : List Hook). h ∷ m) ih
         by false c e f ih = ih
 
+    -- a test of the handle alone may come before or after
+    pub chosen-without : (l : List Hook) → ((g h : Hook) → g .handle ≡ h .handle → t g ≡ t h) → chosen t (without handle l) ≡ without handle (chosen t l)
+    unfolding chosen without
+    chosen-without [] alike = refl
+    chosen-without (h ∷ l) alike = by (eqb (h .handle) handle) (t h) refl refl (chosen-without l alike)
+      where
+        by : (c b : Bool) → eqb (h .handle) handle ≡ c → t h ≡ b → chosen t (without handle l) ≡ without handle (chosen t l)
+            → chosen t (cond c l (h ∷ without handle l)) ≡ without handle (cond b (h ∷ chosen t l) (chosen t l))
+        by true true e p ih = sym (without-here h (chosen t l) e)
+        by true false e p ih =
+            sym (without-none l (λ g q. alike g h (eqb-true (g .handle) handle q ∙ sym (eqb-true (h .handle) handle e)) ∙ p))
+        by false true e p ih =
+            chosen-in t h (without handle l) p ∙ ap (λ (m : List Hook). h ∷ m) ih ∙ sym (without-on h (chosen t l) e)
+        by false false e p ih = chosen-out t h (without handle l) p ∙ ih
+
     -- a test of the handle alone; x has it and none before x; z passes no test
     take-out : (a b : List Hook) (x z : Hook) → ((g h : Hook) → g .handle ≡ h .handle → t g ≡ t h) → Every Other a → x .handle ≡ handle → t z ≡ false
         → chosen t (a ++ (b ++ z ∷ [])) ≡ without handle (chosen t (a ++ x ∷ b))

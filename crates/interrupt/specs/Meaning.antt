@@ -1,16 +1,17 @@
 -- What hooking, unhooking and the chain listing mean, without the proofs.
-use Prim.Native.Nat.{ℕ, _+_, _*_, _≤_}
-use mathlib.Core.Bool.{Bool, false, cond, _||_}
+use Prim.Native.Nat.{ℕ, zero, suc, _*_, _≤_}
+use mathlib.Core.Bool.{Bool, true, false, cond, _||_}
 use mathlib.Core.List.{List, [], _∷_, _++_}
 use mathlib.Core.Logic.{_↔_}
 use mathlib.Core.Path.{_≡_}
 use lib.Dec.{eqb}
-use lib.ListN.{length}
+use lib.IntN.{ℤ, pos, negsuc}
+use lib.ListN.{length, replicate}
 use Rattle.board.specs.Layout.{functionsMax, hookSize}
 use Rattle.board.specs.Statuses.{successful, deviceNotFound}
 use Rattle.interrupt.specs.declared.listing.ChainListing.the-variants.{Refused}
-use Rattle.interrupt.specs.Hooks.{Hook, hook, lineOf, lastLine, chainOf}
-use Rattle.interrupt.specs.Chain.{hookInterrupt, unhookInterrupt}
+use Rattle.interrupt.specs.Hooks.{Hook, hook, lineOf, lastLine, chosen, onLine, chainOf}
+use Rattle.interrupt.specs.Chain.{Changed, hookInterrupt, unhookInterrupt}
 use Rattle.interrupt.specs.Listing.{found, chainListing}
 
 -- every hook of a list has a property
@@ -51,3 +52,43 @@ pub record Placed (chain : List Hook) (line : ℕ) : Type 0 where
 
 abbrev pub ChainPlaces : Type 0
 ChainPlaces = (chain : List Hook) (line : ℕ) → line ≤ lastLine → Placed chain line
+
+-- the array without hooks
+abbrev pub cleared : List ℕ
+cleared = replicate (functionsMax * hookSize) 0
+
+-- a hook or an unhook that is asked for, and what the call does
+pub data Asked : Type 0 where
+  hooking : Hook → Asked
+  unhooking : ℕ → Asked
+
+abbrev pub told : List ℕ → List ℕ → List ℕ → Asked → Changed
+told header records hooks (hooking h) = hookInterrupt header records hooks (h .handle) (h .handler) (h .parameter)
+told header records hooks (unhooking handle) = unhookInterrupt header hooks handle
+
+-- the array after such calls, one after the other
+unfoldable pub arrayAfter : List ℕ → List ℕ → List ℕ → List Asked → List ℕ
+arrayAfter header records hooks [] = hooks
+arrayAfter header records hooks (c ∷ cs) = arrayAfter header records (told header records hooks c .hooks) cs
+
+-- the hooks that stand after them, of all lines, in hooking order: an accepted one goes last, and goes out when it is unhooked
+abbrev pub isDone : ℤ → Bool
+isDone (pos zero) = true
+isDone (pos (suc n)) = false
+isDone (negsuc n) = false
+
+abbrev pub taken : Asked → List Hook → List Hook
+taken (hooking h) hs = hs ++ h ∷ []
+taken (unhooking handle) hs = without handle hs
+
+unfoldable pub inOrder : List ℕ → List ℕ → List ℕ → List Asked → List Hook → List Hook
+inOrder header records hooks [] hs = hs
+inOrder header records hooks (c ∷ cs) hs =
+    let t = told header records hooks c in
+    inOrder header records (t .hooks) cs (cond (isDone (t .status .0)) (taken c hs) hs)
+
+-- THE CHAIN OF A LINE, and so its listing, is the hooked functions of that line in hooking order, after any hooks and unhooks from the cleared array on
+abbrev pub HookingOrder : Type 0
+HookingOrder =
+    (header records : List ℕ) (cs : List Asked) (line : ℕ)
+    → chainOf records (arrayAfter header records cleared cs) line ≡ chosen (onLine records line) (inOrder header records cleared cs [])
