@@ -6,6 +6,7 @@ mod configuration;
 mod data;
 mod descriptors;
 mod interrupts;
+mod marks;
 mod rows;
 mod vocabulary;
 mod windows;
@@ -38,6 +39,6 @@ fn main() {
     descriptors::walks();
     interrupts::chains();
     interrupts::refused_hooks();
-    interrupts::marks();
-    interrupts::always_refused();
+    marks::marks();
+    marks::always_refused();
 }

@@ -1,6 +1,6 @@
 -- Idle buses, and the row of the table that refuses each: document 01, "What the promises say".
 use Prim.Native.Nat.{ℕ, _+_}
-use mathlib.Core.Bool.{Bool, true, false, cond, not, _||_}
+use mathlib.Core.Bool.{cond}
 use mathlib.Core.List.{List, [], _∷_}
 use mathlib.Core.Path.{_≡_}
 use lib.Dec.{ltb}
@@ -47,12 +47,13 @@ kindOf (GetRouting handle) = other
 kindOf (SetInterrupt handle mode) = other
 kindOf (ListWindow n) = list n
 
-abbrev pub isWrite : Kind → Bool
-isWrite load = false
-isWrite search = false
-isWrite write = true
-isWrite (list n) = false
-isWrite other = false
+-- one thing for each kind, in this order
+abbrev pub byKind : {A : Type 0} → Kind → A → A → A → (ℕ → A) → A → A
+byKind load l s w k o = l
+byKind search l s w k o = s
+byKind write l s w k o = w
+byKind (list n) l s w k o = k n
+byKind other l s w k o = o
 
 -- a bus that follows the reference machine but for a rule: the rule is given how many writes came before, the state before the call, the call and what the
 -- reference machine tells
@@ -63,7 +64,7 @@ unfoldable pub following : Rule → ℕ → Reference → List Asked → List He
 following rule n b [] = []
 following rule n b (c ∷ cs) =
     let t = rule n b c (referenceOn b c) in
-    heard (t .answer) (t .own) ∷ following rule (cond (isWrite (kindOf (c .call))) (n + 1) n) (t .reference) cs
+    heard (t .answer) (t .own) ∷ following rule (n + byKind (kindOf (c .call)) 0 0 1 (λ k. 0) 0) (t .reference) cs
 
 abbrev pub bus : Rule → Machine
 bus rule = following rule 0 (referenceStart cells2064)
@@ -73,41 +74,24 @@ abbrev pub firstOf : List ℤ → ℤ
 firstOf [] = pos 0
 firstOf (z ∷ zs) = z
 
-abbrev pub refusedBut : Kind → Reference → Asked → Told → Told
-refusedBut load b c t = t
-refusedBut search b c t = told (answer (firstOf (refusals (c .call))) zeros) b (c .own)
-refusedBut write b c t = told (answer (firstOf (refusals (c .call))) zeros) b (c .own)
-refusedBut (list n) b c t = told (answer (firstOf (refusals (c .call))) zeros) b (c .own)
-refusedBut other b c t = told (answer (firstOf (refusals (c .call))) zeros) b (c .own)
-
 abbrev pub refusesEverything : Rule
-refusesEverything n b c t = refusedBut (kindOf (c .call)) b c t
+refusesEverything n b c t =
+    let refused = told (answer (firstOf (refusals (c .call))) zeros) b (c .own) in
+    byKind (kindOf (c .call)) t refused refused (λ k. refused) refused
 
 -- it gives handle 1 to every search
-abbrev pub foundOr : Kind → Told → Told
-foundOr load t = t
-foundOr search t = told (found 1) (t .reference) (t .own)
-foundOr write t = t
-foundOr (list n) t = t
-foundOr other t = t
-
 abbrev pub findsHandle1 : Rule
-findsHandle1 n b c t = foundOr (kindOf (c .call)) t
+findsHandle1 n b c t = byKind (kindOf (c .call)) t (told (found 1) (t .reference) (t .own)) t (λ k. t) t
 
 -- of its writes only the first m do anything: with m 0 they do nothing, with m 1 it works once and then stands still
 abbrev pub writesUpTo : ℕ → Rule
-writesUpTo m n b c t = cond (not (isWrite (kindOf (c .call))) || ltb n m) t (told (t .answer) b (t .own))
+writesUpTo m n b c t = byKind (kindOf (c .call)) t t (cond (ltb n m) t (told (t .answer) b (t .own))) (λ k. t) t
 
 -- it lists m windows, however many are open
-abbrev pub listedOr : Kind → ℕ → Told → Told
-listedOr load m t = t
-listedOr search m t = t
-listedOr write m t = t
-listedOr (list k) m t = told (cond (ltb k m) (answer (successful .0) (t .answer .values)) (ofStatus deviceNotFound)) (t .reference) (t .own)
-listedOr other m t = t
-
 abbrev pub lists : ℕ → Rule
-lists m n b c t = listedOr (kindOf (c .call)) m t
+lists m n b c t =
+    byKind (kindOf (c .call)) t t t
+    (λ k. told (cond (ltb k m) (answer (successful .0) (t .answer .values)) (ofStatus deviceNotFound)) (t .reference) (t .own)) t
 
 -- a row that a bus does not meet
 abbrev pub Fails : Rule → Case → Type 0
