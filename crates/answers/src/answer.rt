@@ -5,7 +5,7 @@ use board::read::FastRead;
 use board::read::Read;
 use board::status::Status;
 use card_used::used::CardUsed;
-use interrupt::listing::ChainListing;
+use chain_listing::listing::ChainListing;
 use reference::Answer;
 use reference::Values;
 use search::search::Search;
@@ -19,7 +19,7 @@ ghost use lib.ListN.{replicate};
 ghost use Prim.Native.Nat.{_<_};
 ghost use Rattle.window_listing.specs.Listing.{numberOf, valuesOf, spaceNumber, startNumber, lengthNumber};
 ghost use Rattle.search.specs.Search.{foundNumber};
-ghost use Rattle.interrupt.specs.Listing.{chainNumberOf, chainValuesOf};
+ghost use Rattle.chain_listing.specs.Listing.{chainNumberOf, chainValuesOf};
 ghost use Rattle.reference.specs.Answers.{answer, one, ofStatus, ofSearch, ofRead, ofFastRead, ofToCpu, ofToBus, ofChain, ofUsed};
 ghost use Rattle.answers.specs.Steps.{handleFound};
 

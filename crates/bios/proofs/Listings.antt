@@ -6,8 +6,8 @@ use Rattle.window_list.specs.Windows.{Window}
 use Rattle.window_listing.specs.Listing.{numberOf, valuesOf, Lists}
 use Rattle.window_listing.specs.declared.listing.Listing.{Listing}
 use Rattle.interrupt.specs.Hooks.{Hook}
-use Rattle.interrupt.specs.Listing.{chainNumberOf, chainValuesOf, ListsChain}
-use Rattle.interrupt.specs.declared.listing.ChainListing.{ChainListing}
+use Rattle.chain_listing.specs.Listing.{chainNumberOf, chainValuesOf, ListsChain}
+use Rattle.chain_listing.specs.declared.listing.ChainListing.{ChainListing}
 use Rattle.reference.specs.declared.Answer.{Answer}
 use Rattle.reference.specs.Answers.{answer, ofChain}
 use Rattle.bios.specs.Exports.{shown, shownWindow, shownHook}

@@ -23,7 +23,7 @@ use Rattle.access.specs.declared.convert.ToCpu.{ToCpu}
 use Rattle.find_window.specs.declared.find.Space.{Space}
 use Rattle.find_window.specs.declared.find.Space.the-variants.{Memory, Io}
 use Rattle.interrupt.specs.Hooks.{Hook}
-use Rattle.interrupt.specs.Listing.{chainNumber, chainValues}
+use Rattle.chain_listing.specs.Listing.{chainNumber, chainValues}
 use Rattle.card_used.specs.declared.used.CardUsed.{CardUsed}
 use Rattle.resource.specs.declared.descriptor.Descriptor.{Descriptor}
 use Rattle.walker.specs.declared.step.Step.{Step}

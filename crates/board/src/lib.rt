@@ -1,4 +1,4 @@
-// What every other crate is built on: the numbers handed back, the two kinds of address, handles, the layout of the lent parts, bytes and numbers.
+// What every call is built on: the numbers handed back, the two kinds of address, handles, the layout of the lent parts.
 pub mod address;
 pub mod handle;
 pub mod layout;

@@ -17,11 +17,11 @@ use board::layout::Records;
 use board::layout::Registers;
 use board::layout::WINDOWS;
 use board::layout::Windows;
+use chain_listing::listing::ChainListing;
+use chain_listing::listing::list_chain;
 use config::write::write_config;
 use interrupt::chain::hook_interrupt;
 use interrupt::chain::unhook_interrupt;
-use interrupt::listing::ChainListing;
-use interrupt::listing::list_chain;
 use numbers::number::Width;
 
 // The calls of a row in one number, two hexadecimal digits a call, the first one in front: what is called and the handle. Where the eighth call from the end stands.

@@ -1,2 +1,2 @@
--- The laws that proofs here and above cite.
+-- The laws that proofs here cite.
 pub mod Arms

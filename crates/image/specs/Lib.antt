@@ -1,4 +1,4 @@
--- The definitions that contracts cite, and the statements about them.
+-- The definitions that contracts cite.
 pub mod Image
 pub mod Refusals
 pub mod Check

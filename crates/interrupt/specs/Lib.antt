@@ -1,7 +1,6 @@
 -- The definitions that contracts cite, and the statements about them.
 pub mod Hooks
 pub mod Chain
-pub mod Listing
 pub mod Unsupported
 pub mod Steps
 pub mod Meaning

@@ -1,18 +1,15 @@
--- What hooking, unhooking and the chain listing mean, without the proofs.
-use Prim.Native.Nat.{ℕ, zero, suc, _*_, _≤_}
+-- What hooking and unhooking mean, without the proofs.
+use Prim.Native.Nat.{ℕ, zero, suc, _*_}
 use mathlib.Core.Bool.{Bool, true, false, cond, _||_}
 use mathlib.Core.List.{List, [], _∷_, _++_}
-use mathlib.Core.Logic.{_↔_}
 use mathlib.Core.Path.{_≡_}
 use lib.Dec.{eqb}
 use lib.IntN.{ℤ, pos, negsuc}
 use lib.ListN.{length, replicate}
 use Rattle.board.specs.Layout.{functionsMax, hookSize}
-use Rattle.board.specs.Statuses.{successful, deviceNotFound}
-use Rattle.interrupt.specs.declared.listing.ChainListing.the-variants.{Refused}
-use Rattle.interrupt.specs.Hooks.{Hook, hook, lineOf, lastLine, chosen, onLine, chainOf}
+use Rattle.board.specs.Statuses.{successful}
+use Rattle.interrupt.specs.Hooks.{Hook, hook, lineOf, chosen, onLine, chainOf}
 use Rattle.interrupt.specs.Chain.{Changed, hookInterrupt, unhookInterrupt}
-use Rattle.interrupt.specs.Listing.{found, chainListing}
 
 -- every hook of a list has a property
 abbrev pub Every : (Hook → Type 0) → List Hook → Type 0
@@ -44,14 +41,6 @@ GoesOut =
     → length hooks ≡ functionsMax * hookSize
     → unhookInterrupt header hooks handle .status ≡ successful
     → chainOf records (unhookInterrupt header hooks handle .hooks) line ≡ without handle (chainOf records hooks line)
-
--- the listing of a line gives the hook with so many before it, and -4 exactly past the end
-pub record Placed (chain : List Hook) (line : ℕ) : Type 0 where
-  pub given : (before after : List Hook) (h : Hook) → chain ≡ before ++ h ∷ after → chainListing chain line (length before) ≡ found h
-  pub missing : (place : ℕ) → (chainListing chain line place ≡ Refused deviceNotFound) ↔ (length chain ≤ place)
-
-abbrev pub ChainPlaces : Type 0
-ChainPlaces = (chain : List Hook) (line : ℕ) → line ≤ lastLine → Placed chain line
 
 -- the array without hooks
 abbrev pub cleared : List ℕ

@@ -16,22 +16,22 @@ const LINE: u32 = 0x3C;
 const PIN: u32 = 0x3D;
 
 // The last line that there is.
-pub(crate) const LAST_LINE: u32 = 15;
+pub const LAST_LINE: u32 = 15;
 
 // The three numbers of an entry, zeros past the last one.
-pub(crate) fn handle_at(hooks: &Hooks, e: u32) -> u32
+pub fn handle_at(hooks: &Hooks, e: u32) -> u32
     ensures { λ r. ⌜ r ≡ hookAt (now (hooks .entry)) e .handle ⌝ }
 {
     u32_at(hooks, HOOK * (e as usize))
 }
 
-pub(crate) fn handler_at(hooks: &Hooks, e: u32) -> u32
+pub fn handler_at(hooks: &Hooks, e: u32) -> u32
     ensures { λ r. ⌜ r ≡ hookAt (now (hooks .entry)) e .handler ⌝ }
 {
     u32_at(hooks, HOOK * (e as usize) + 1)
 }
 
-pub(crate) fn parameter_at(hooks: &Hooks, e: u32) -> u32
+pub fn parameter_at(hooks: &Hooks, e: u32) -> u32
     ensures { λ r. ⌜ r ≡ hookAt (now (hooks .entry)) e .parameter ⌝ }
 {
     u32_at(hooks, HOOK * (e as usize) + 2)
@@ -54,7 +54,7 @@ pub(crate) fn pin_of(records: &Records, handle: u32) -> u32
 }
 
 // Whether an entry is a hook on a line.
-pub(crate) fn is_on_line(records: &Records, hooks: &Hooks, e: u32, line: u32) -> bool
+pub fn is_on_line(records: &Records, hooks: &Hooks, e: u32, line: u32) -> bool
     ensures { λ r. ⌜ r ≡ onLine (now (records .entry)) line (hookAt (now (hooks .entry)) e) ⌝ }
 {
     let handle = handle_at(hooks, e);

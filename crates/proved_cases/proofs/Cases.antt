@@ -9,7 +9,7 @@ use Rattle.search.specs.Search.{matching, searchNumber}
 use Rattle.find_window.specs.Find.{inList, find}
 use Rattle.resource.specs.Descriptor.{descriptorBytes, bytesOf}
 use Rattle.resource.specs.Resource.{windowsFrom, startIn, described, resource}
-use Rattle.interrupt.specs.Listing.{placeNumber, placeValues}
+use Rattle.chain_listing.specs.Listing.{placeNumber, placeValues}
 use Rattle.interrupt.specs.Meaning.{isAmong}
 use Rattle.window_entry.specs.Entry.{entryOk}
 use Rattle.record.specs.Record.{recordOk}

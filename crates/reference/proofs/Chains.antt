@@ -9,10 +9,10 @@ use Rattle.board.specs.Parts.{withHooks}
 use Rattle.numbers.proofs.Tests.{both-true}
 use Rattle.interrupt.specs.Hooks.{Hook, hook, lineOf, pinOf, lastLine, chainOf, packed}
 use Rattle.interrupt.specs.Chain.{isRouted, Changed}
-use Rattle.interrupt.specs.Listing.{listed, chainListing, chainNumberOf, chainValuesOf}
+use Rattle.chain_listing.specs.Listing.{listed, chainListing, chainNumberOf, chainValuesOf}
 use Rattle.interrupt.specs.Meaning.{without}
-use Rattle.interrupt.specs.declared.listing.ChainListing.{ChainListing}
-use Rattle.interrupt.proofs.Listings.{chain-number, chain-values}
+use Rattle.chain_listing.specs.declared.listing.ChainListing.{ChainListing}
+use Rattle.chain_listing.proofs.Listings.{chain-number, chain-values}
 use Rattle.interrupt.proofs.Room.{without-once}
 use Rattle.load.specs.Load.{padded}
 use Rattle.reference.specs.declared.Answer.{Answer}

@@ -12,9 +12,9 @@ use Rattle.resource.specs.Descriptor.{size}
 use Rattle.resource.specs.Resource.{Gave, windowBases, resource, sourceOf}
 use Rattle.interrupt.specs.Hooks.{Hook, lineOf, pinOf, lastLine, chainOf}
 use Rattle.interrupt.specs.Chain.{Changed, isRouted, isHooked, isFree}
-use Rattle.interrupt.specs.Listing.{listed, chainNumberOf, chainValuesOf}
+use Rattle.chain_listing.specs.Listing.{listed, chainNumberOf, chainValuesOf}
 use Rattle.card_used.specs.Used.{Marked}
-use Rattle.interrupt.specs.declared.listing.ChainListing.{ChainListing}
+use Rattle.chain_listing.specs.declared.listing.ChainListing.{ChainListing}
 use Rattle.card_used.specs.declared.used.CardUsed.{CardUsed}
 use Rattle.reference.specs.declared.Answer.{Answer}
 use Rattle.reference.specs.declared.Call.{Call}

@@ -29,7 +29,7 @@ use Rattle.resource.specs.Resource.{Source, resource}
 use Rattle.interrupt.specs.Hooks.{Hook, hook}
 use Rattle.interrupt.specs.Chain.{isRouted, hookChecks, unhookChecks}
 use Rattle.interrupt.specs.Meaning.{isAmong, without}
-use Rattle.interrupt.specs.Listing.{chainNumber, chainValues}
+use Rattle.chain_listing.specs.Listing.{chainNumber, chainValues}
 use Rattle.card_used.specs.Used.{Mark, newMark, usedOf, setChecks}
 use Rattle.cells.specs.Cells.{cellsBefore, total, zeroed}
 use Rattle.image.specs.Image.{imageSize, countOf, recordsOf, sum, trailer}

@@ -17,7 +17,7 @@ use Rattle.find_window.specs.Find.{spaceNumber}
 use Rattle.resource.specs.Resource.{getResource}
 use Rattle.interrupt.specs.Hooks.{chainOf}
 use Rattle.interrupt.specs.Chain.{hookInterrupt, unhookInterrupt}
-use Rattle.interrupt.specs.Listing.{chainListing, chainNumberOf, chainValuesOf}
+use Rattle.chain_listing.specs.Listing.{chainListing, chainNumberOf, chainValuesOf}
 use Rattle.card_used.specs.Used.{getCardUsed, setCardUsed}
 use Rattle.interrupt.specs.Unsupported.{specialCycle, getRouting, setInterrupt}
 use Rattle.load.specs.Load.{load, reset}

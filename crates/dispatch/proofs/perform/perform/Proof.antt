@@ -2,7 +2,7 @@
 use mathlib.Core.Path.{refl, sym}
 use Rattle.window_listing.specs.Listing.{numberOf, valuesOf}
 use Rattle.search.proofs.Searches.{search-number}
-use Rattle.interrupt.specs.Listing.{chainNumberOf, chainValuesOf}
+use Rattle.chain_listing.specs.Listing.{chainNumberOf, chainValuesOf}
 use Rattle.reference.specs.Answers.{answer, ofStatus, ofSearch, ofRead, ofFastRead, ofToCpu, ofToBus, ofChain, ofUsed}
 use Rattle.reference.specs.State.{step}
 use Rattle.dispatch.proofs.Arms.{arm-told, arm-load, arm-reset, arm-write, arm-write-config, arm-write-data, arm-resource, arm-hooks, arm-set-used}

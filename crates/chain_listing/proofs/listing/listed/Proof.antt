@@ -2,13 +2,13 @@
 use Prim.Native.Nat.{suc, _+_, _-_, _≤_}
 use mathlib.Core.Path.{_≡_, refl, sym, _∙_}
 use Rattle.board.specs.Layout.{functionsMax}
 use Rattle.interrupt.specs.Hooks.{hookAt, entriesFrom, chosen, onLine, chainOf}
-use Rattle.interrupt.specs.Listing.{listed}
-use Rattle.interrupt.proofs.Listings.{turn-found, turn-counted, turn-passed}
+use Rattle.chain_listing.specs.Listing.{listed}
+use Rattle.chain_listing.proofs.Listings.{turn-found, turn-counted, turn-passed}
 use borrow.Author.Needs.{needs}
 use native.Mathlib.Omega.{arith}
-use Rattle.interrupt.proofs.listing.listed.Statement.{statement}
-use Rattle.interrupt.proofs.listing.listed.Tie as tie
+use Rattle.chain_listing.proofs.listing.listed.Statement.{statement}
+use Rattle.chain_listing.proofs.listing.listed.Tie as tie
 
 abbrev Inv-loop : tie.InvT-loop
 Inv-loop records hooks line place most before₀ e₀ before e =

@@ -1,11 +1,11 @@
 -- `list_chain`: the line is tested, then the chain is walked.
 use native.Mathlib.Omega.{arith}
 use borrow.Author.Tests.{lt-ltb, le-ltb}
 use Rattle.interrupt.specs.Hooks.{lastLine}
-use Rattle.interrupt.proofs.Listings.{lists}
+use Rattle.chain_listing.proofs.Listings.{lists}
 use borrow.Author.Needs.{needs}
-use Rattle.interrupt.proofs.listing.list_chain.Statement.{statement}
-use Rattle.interrupt.proofs.listing.list_chain.Tie as tie
+use Rattle.chain_listing.proofs.listing.list_chain.Statement.{statement}
+use Rattle.chain_listing.proofs.listing.list_chain.Tie as tie
 
 returns : tie.Need-returns
 returns c = lists _ _ _ _ (rw (lt-ltb lastLine (c .before .args .line) (omega (arith, c .if1 .taken))))

@@ -1,16 +1,16 @@
 // The listing of a line's chain.
-use crate::hooks::LAST_LINE;
-use crate::hooks::handle_at;
-use crate::hooks::handler_at;
-use crate::hooks::is_on_line;
-use crate::hooks::parameter_at;
 use board::layout::FUNCTIONS;
 use board::layout::Hooks;
 use board::layout::Records;
 use board::status::Status;
+use interrupt::hooks::LAST_LINE;
+use interrupt::hooks::handle_at;
+use interrupt::hooks::handler_at;
+use interrupt::hooks::is_on_line;
+use interrupt::hooks::parameter_at;
 ghost use mathlib.Core.Path.{_≡_};
 ghost use Rattle.interrupt.specs.Hooks.{hookAt, chainOf};
-ghost use Rattle.interrupt.specs.Listing.{found, listed, ListsChain};
+ghost use Rattle.chain_listing.specs.Listing.{found, listed, ListsChain};
 
 // The hook at a place of a chain, or the refusal.
 pub enum ChainListing {

@@ -9,11 +9,11 @@ use lib.ListN.{length, replicate}
 use borrow.Author.Tests.{le-ltb}
 use Rattle.board.specs.Layout.{hookSize}
 use Rattle.board.specs.Statuses.{deviceNotFound, generalError}
-use Rattle.interrupt.specs.declared.listing.ChainListing.{ChainListing}
-use Rattle.interrupt.specs.declared.listing.ChainListing.the-variants.{Refused}
+use Rattle.chain_listing.specs.declared.listing.ChainListing.{ChainListing}
+use Rattle.chain_listing.specs.declared.listing.ChainListing.the-variants.{Refused}
 use Rattle.interrupt.specs.Hooks.{Hook, entriesFrom, chosen, lastLine}
-use Rattle.interrupt.specs.Listing.{found, listed, chainListing, chainNumberOf, chainValuesOf, placeNumber, placeValues, chainNumber, chainValues, ListsChain}
-use Rattle.interrupt.specs.Meaning.{ChainPlaces}
+use Rattle.chain_listing.specs.Listing.{found, listed, chainListing, chainNumberOf, chainValuesOf, placeNumber, placeValues, chainNumber, chainValues, ListsChain}
+use Rattle.chain_listing.specs.Meaning.{ChainPlaces}
 
 -- a turn at entry i, where one entry and the rest are left: found, a hook that is counted, an entry that is not on the line
 module _ (t : Hook → Bool) (f : ℕ → Hook) (i left rest : ℕ) (more : left ≡ suc rest) where

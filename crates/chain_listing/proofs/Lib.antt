@@ -1,0 +1,2 @@
+-- The laws of the chain listing.
+pub mod Listings

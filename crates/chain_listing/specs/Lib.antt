@@ -1,0 +1,3 @@
+-- The chain listing, and what it means.
+pub mod Listing
+pub mod Meaning

@@ -1,0 +1,2 @@
+// The listing of interrupt chains.
+pub mod listing;
