@@ -29,7 +29,8 @@ struct pci_descriptor {
     uint32_t start, length, offset, dmaoffset;
 };
 
-/* Buffers that are lent to one call overlap neither each other nor the board. */
+/* What is lent to one call, buffers and the places of results, overlaps neither itself nor the board; a build without
+   NDEBUG asserts it. A buffer of length 0 may be NULL. Every call writes the places of its results, refused or not. */
 
 /* The number of the first refusal of an image, 0 for none, 8 left out; with 6 the place of the record at fault, else 0. */
 int32_t pci_check_image(const uint8_t *image, size_t length, uint32_t *place);

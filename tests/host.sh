@@ -1,9 +1,35 @@
 #!/bin/sh
-# Compiles the first use from C against the proved static library and compares what it prints for B1 with its stored output.
+# Compiles what is written in C against the proved static library and runs it: the first use, compared with its stored output, and calls that are lent overlapping memory.
 set -eu
 cd "$(dirname "$0")/.."
 mkdir -p target/host
-cc -std=c99 -Wall -Wextra -Werror -Ihost host/first.c host/pci_bios.c target/staticlib/libbios.a -o target/host/first
-target/host/first < crates/windows/stdin > target/host/first.out
-diff host/first.out target/host/first.out || { echo "host: the output differs (< stored, > printed)"; exit 1; }
+image=crates/windows/stdin
+flags="-std=c99 -Wall -Wextra -Wpedantic -Werror -Ihost"
+
+# build NAME FLAGS SOURCE ..: the program target/host/NAME.
+build() {
+    program=target/host/$1 more=$2
+    shift 2
+    cc $flags $more "$@" host/pci_bios.c target/staticlib/libbios.a -o "$program"
+}
+
+# same NAME STORED: what target/host/NAME prints for B1.
+same() {
+    target/host/"$1" < "$image" > target/host/"$1".out
+    diff "$2" target/host/"$1".out || { echo "host: the output of $1 differs (< stored, > printed)"; exit 1; }
+}
+
+build first "" host/first.c
+same first host/first.out
 echo "host: first use from C, equal"
+
+# A call must abort (status 134); 0 says that it came back, 2 that the last call was the one before.
+build overlap "" host/tests/overlap.c
+build overlap-release -DNDEBUG host/tests/overlap.c
+target/host/overlap 0 || { echo "host: memory that is apart was refused"; exit 1; }
+call=1
+while status=0; (ulimit -c 0; target/host/overlap $call; exit $?) > target/host/overlap.out 2>&1 || status=$?; [ $status != 2 ]; do
+    [ $status = 134 ] || { echo "host: overlapping memory in call $call: status $status"; exit 1; }
+    call=$((call + 1))
+done
+echo "host: $((call - 1)) calls that are lent overlapping memory, all caught"
