@@ -1,10 +1,12 @@
 #!/bin/sh
-# Compiles what is written in C against the proved static library and runs it: the first use, compared with its stored output, and calls that are lent overlapping memory.
+# Compiles what is written in C against the proved static library and runs it: the first use and the incident, compared with their stored outputs, and calls that are
+# lent overlapping memory. Once plain, once with sanitizers; the library itself has none in it.
 set -eu
 cd "$(dirname "$0")/.."
 mkdir -p target/host
 image=crates/windows/stdin
 flags="-std=c99 -Wall -Wextra -Wpedantic -Werror -Ihost"
+checks="-g -fsanitize=address,undefined -fno-sanitize-recover=all"
 
 # build NAME FLAGS SOURCE ..: the program target/host/NAME.
 build() {
@@ -22,6 +24,12 @@ same() {
 build first "" host/first.c
 same first host/first.out
 echo "host: first use from C, equal"
+
+build incident "" -Ihost/examples host/examples/incident.c host/examples/sizer.c host/pci_driver.c
+same incident host/examples/incident.out
+build incident-checked "$checks" -Ihost/examples host/examples/incident.c host/examples/sizer.c host/pci_driver.c
+same incident-checked host/examples/incident.out
+echo "host: the incident on B1, equal, plain and with sanitizers"
 
 # A call must abort (status 134); 0 says that it came back, 2 that the last call was the one before.
 build overlap "" host/tests/overlap.c
