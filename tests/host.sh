@@ -1,6 +1,6 @@
 #!/bin/sh
-# Compiles what is written in C against the proved static library and runs it: the first use and the incident, compared with their stored outputs, and calls that are
-# lent overlapping memory. Once plain, once with sanitizers; the library itself has none in it.
+# Compiles what is written in C against the proved static library and runs it: the first use and the incident, compared with their stored outputs, the tests of both layers,
+# and calls that are lent overlapping memory. The sanitizers see the C, not the library.
 set -eu
 cd "$(dirname "$0")/.."
 mkdir -p target/host
@@ -25,11 +25,19 @@ build first "" host/first.c
 same first host/first.out
 echo "host: first use from C, equal"
 
-build incident "" -Ihost/examples host/examples/incident.c host/examples/sizer.c host/pci_driver.c
+incident="-Ihost/examples host/examples/incident.c host/examples/sizer.c host/pci_driver.c"
+build incident "" $incident
 same incident host/examples/incident.out
-build incident-checked "$checks" -Ihost/examples host/examples/incident.c host/examples/sizer.c host/pci_driver.c
+build incident-checked "$checks" $incident
 same incident-checked host/examples/incident.out
 echo "host: the incident on B1, equal, plain and with sanitizers"
+
+glue="host/tests/check.c host/tests/test_bios.c host/tests/test_driver.c host/pci_driver.c"
+for kind in glue glue-checked; do
+    if [ $kind = glue ]; then build $kind "" $glue; else build $kind "$checks" $glue; fi
+    target/host/$kind < "$image" > target/host/$kind.out || { echo "host: tests of the calls from C ($kind)"; cat target/host/$kind.out; exit 1; }
+done
+echo "host: the calls from C, $(tail -n 1 target/host/glue.out), plain and with sanitizers"
 
 # A call must abort (status 134); 0 says that it came back, 2 that the last call was the one before.
 build overlap "" host/tests/overlap.c
