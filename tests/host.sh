@@ -39,13 +39,14 @@ for kind in glue glue-checked; do
 done
 echo "host: the calls from C, $(tail -n 1 target/host/glue.out), plain and with sanitizers"
 
-# A call must abort (status 134); 0 says that it came back, 2 that the last call was the one before.
+# Each call must abort (status 134); 0 says that it came back, 2 that there is no call of that number.
 build overlap "" host/tests/overlap.c
 build overlap-release -DNDEBUG host/tests/overlap.c
 target/host/overlap 0 || { echo "host: memory that is apart was refused"; exit 1; }
-call=1
-while status=0; (ulimit -c 0; target/host/overlap $call; exit $?) > target/host/overlap.out 2>&1 || status=$?; [ $status != 2 ]; do
+calls=26
+for call in $(seq $calls); do
+    status=0
+    (ulimit -c 0; target/host/overlap "$call"; exit $?) > target/host/overlap.out 2>&1 || status=$?
     [ $status = 134 ] || { echo "host: overlapping memory in call $call: status $status"; exit 1; }
-    call=$((call + 1))
 done
-echo "host: $((call - 1)) calls that are lent overlapping memory, all caught"
+echo "host: $calls calls that are lent overlapping memory, all caught"

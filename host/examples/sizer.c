@@ -30,7 +30,7 @@ static const struct resource_descriptor *find_bins(const struct resource_descrip
     for (;;) {
         if (!(rsc->flags & RSC_IO) && (rsc->flags & FLG_32BIT) && rsc->start != 0 && rsc->length >= 4 * SIZER_BINS)
             return rsc;
-        if (rsc->flags & RSC_LAST)
+        if ((rsc->flags & RSC_LAST) || rsc->next == 0)
             return NULL;
         rsc = (const struct resource_descriptor *)(const void *)((const UBYTE *)rsc + rsc->next);
     }

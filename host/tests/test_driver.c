@@ -277,8 +277,25 @@ static void test_used(void) {
     check_used(1, 0, NULL);
     ALTERS(0, pci_reset(&board, cells, sizeof cells));
     check_used(2, 0, NULL);
+}
+
+/* A call-back that was not set here has no pointer, nor has a refusal, whatever other functions have. */
+static void test_foreign_callbacks(void) {
+    uint32_t place;
+    GIVES(0, pci_load(&board, cells, sizeof cells, sixteen, sizeof sixteen, &place));
+    pci_use_board(&board, cells, sizeof cells);
+    ALTERS(0, set_card_used(1, first_callback));
+    ALTERS(0, set_card_used(16, second_callback));
     ALTERS(0, pci_set_card_used(&board, 2, 2, 1));
+    check_used(1, 2, first_callback);
     check_used(2, 2, NULL);
+    check_used(16, 2, second_callback);
+    check_used(0, PCI_BAD_HANDLE, NULL);
+    check_used(17, PCI_BAD_HANDLE, NULL);
+}
+
+static void test_unsupported(void) {
+    use_fresh();
     LEAVES(PCI_FUNC_NOT_SUPPORTED, special_cycle(0, 0));
     LEAVES(PCI_FUNC_NOT_SUPPORTED, get_routing());
     LEAVES(PCI_FUNC_NOT_SUPPORTED, set_interrupt());
@@ -318,6 +335,8 @@ void test_driver(void) {
     test_foreign_hooks();
     test_sixteen_hooks();
     test_used();
+    test_foreign_callbacks();
+    test_unsupported();
     pci_use_board(NULL, cells, sizeof cells);
     test_no_board();
     /* A board with cells that are too short, and with none. */
