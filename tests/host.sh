@@ -15,17 +15,19 @@ build() {
     cc $flags $more "$@" host/pci_bios.c target/staticlib/libbios.a -o "$program"
 }
 
-# same NAME STORED: what target/host/NAME prints for B1.
+# same NAME STORED: what target/host/NAME prints for B1, and that it ends with status 0.
 same() {
-    target/host/"$1" < "$image" > target/host/"$1".out
+    status=0
+    target/host/"$1" < "$image" > target/host/"$1".out || status=$?
     diff "$2" target/host/"$1".out || { echo "host: the output of $1 differs (< stored, > printed)"; exit 1; }
+    [ $status = 0 ] || { echo "host: $1 ended with status $status"; exit 1; }
 }
 
 build first "" host/first.c
 same first host/first.out
 echo "host: first use from C, equal"
 
-incident="-Ihost/examples host/examples/incident.c host/examples/sizer.c host/pci_driver.c"
+incident="host/examples/incident.c host/examples/sizer.c host/pci_driver.c"
 build incident "" $incident
 same incident host/examples/incident.out
 build incident-checked "$checks" $incident
