@@ -1,4 +1,5 @@
 /* The calls of pci_bios.h over the proved static library: numbers and pointers are passed on, no rule stands here. */
+#include <assert.h>
 #include "pci_bios.h"
 
 uint32_t bios_check_image(const uint8_t *image, size_t length, size_t room, uint32_t *place);
@@ -44,26 +45,75 @@ int32_t bios_special_cycle(uint8_t bus, uint32_t message);
 int32_t bios_get_routing(uint32_t handle);
 int32_t bios_set_interrupt(uint32_t handle, uint32_t mode);
 
+#ifdef NDEBUG
+#define LENT(...) ((void)0)
+#else
+/* What is lent to one call: its board, its buffers, the places of its results. */
+struct lent {
+    const void *start;
+    size_t length;
+};
+
+/* Whether each part has an address, unless it is empty, and no two share a byte. */
+static int lent_apart(const struct lent *parts, size_t count) {
+    for (size_t i = 0; i < count; i++) {
+        uintptr_t a = (uintptr_t)parts[i].start;
+        if (parts[i].start == NULL && parts[i].length > 0)
+            return 0;
+        for (size_t j = 0; j < count; j++) {
+            uintptr_t b = (uintptr_t)parts[j].start;
+            if (j != i && a <= b && b - a < parts[i].length && parts[j].length > 0)
+                return 0;
+        }
+    }
+    return 1;
+}
+
+/* The library may take it for granted, so a debug build looks. */
+#define LENT(...)                                                  \
+    do {                                                           \
+        const struct lent parts[] = {__VA_ARGS__};                 \
+        assert(lent_apart(parts, sizeof parts / sizeof parts[0])); \
+    } while (0)
+#endif
+
+/* An empty buffer may be NULL here; the library is given an address in every case. Nothing is read or written there. */
+static uint8_t *given(uint8_t *bytes, size_t length) {
+    static uint8_t nothing;
+    return length == 0 ? &nothing : bytes;
+}
+
+static const uint8_t *given_const(const uint8_t *bytes, size_t length) {
+    static const uint8_t nothing = 0;
+    return length == 0 ? &nothing : bytes;
+}
+
 int32_t pci_check_image(const uint8_t *image, size_t length, uint32_t *place) {
-    return (int32_t)bios_check_image(image, length, SIZE_MAX, place);
+    LENT({image, length}, {place, sizeof *place});
+    return (int32_t)bios_check_image(given_const(image, length), length, SIZE_MAX, place);
 }
 
 int32_t pci_load(struct pci_board *board, uint8_t *cells, size_t cells_length, const uint8_t *image, size_t length,
                  uint32_t *place) {
-    return (int32_t)bios_load(image, length, board->header, board->records, board->registers, board->windows,
-                              board->cell_offsets, board->hooks, board->used, cells, cells_length, place);
+    LENT({board, sizeof *board}, {cells, cells_length}, {image, length}, {place, sizeof *place});
+    return (int32_t)bios_load(given_const(image, length), length, board->header, board->records, board->registers,
+                              board->windows, board->cell_offsets, board->hooks, board->used,
+                              given(cells, cells_length), cells_length, place);
 }
 
 int32_t pci_reset(struct pci_board *board, uint8_t *cells, size_t cells_length) {
+    LENT({board, sizeof *board}, {cells, cells_length});
     return bios_reset(board->header, board->records, board->registers, board->windows, board->cell_offsets,
-                      board->hooks, board->used, cells, cells_length);
+                      board->hooks, board->used, given(cells, cells_length), cells_length);
 }
 
 int32_t pci_write_image(const struct pci_board *board, uint8_t *out, size_t length) {
-    return (int32_t)bios_write_image(board->header, board->records, out, length);
+    LENT({board, sizeof *board}, {out, length});
+    return (int32_t)bios_write_image(board->header, board->records, given(out, length), length);
 }
 
 int32_t pci_list_window(const struct pci_board *board, uint32_t n, struct pci_window *window) {
+    LENT({board, sizeof *board}, {window, sizeof *window});
     uint64_t values[6];
     int32_t number = bios_list_window(board->windows, n, values);
     window->io = (int)values[0];
@@ -84,10 +134,12 @@ int32_t pci_find_class(const struct pci_board *board, uint32_t class_code, uint3
 }
 
 int32_t pci_read_config(const struct pci_board *board, unsigned width, uint32_t handle, uint8_t reg, uint32_t *value) {
+    LENT({board, sizeof *board}, {value, sizeof *value});
     return bios_read_config(board->header, board->registers, width, handle, reg, value);
 }
 
 uint32_t pci_fast_read_config(const struct pci_board *board, unsigned width, uint32_t handle, uint8_t reg, int *fault) {
+    LENT({board, sizeof *board}, {fault, sizeof *fault});
     uint32_t flag;
     uint32_t value = bios_fast_read_config(board->header, board->registers, width, handle, reg, &flag);
     *fault = (int)flag;
@@ -101,41 +153,50 @@ int32_t pci_write_config(struct pci_board *board, unsigned width, uint32_t handl
 
 int32_t pci_read_data(const struct pci_board *board, const uint8_t *cells, size_t cells_length, int io, unsigned width,
                       uint32_t handle, uint32_t address, uint32_t *value) {
-    return bios_read_data(board->header, board->records, board->windows, board->cell_offsets, cells, cells_length,
-                          (uint32_t)io, width, handle, address, value);
+    LENT({board, sizeof *board}, {cells, cells_length}, {value, sizeof *value});
+    return bios_read_data(board->header, board->records, board->windows, board->cell_offsets,
+                          given_const(cells, cells_length), cells_length, (uint32_t)io, width, handle, address, value);
 }
 
 uint32_t pci_fast_read_data(const struct pci_board *board, const uint8_t *cells, size_t cells_length, int io,
                             unsigned width, uint32_t handle, uint32_t address, int *fault) {
+    LENT({board, sizeof *board}, {cells, cells_length}, {fault, sizeof *fault});
     uint32_t flag;
-    uint32_t value = bios_fast_read_data(board->header, board->records, board->windows, board->cell_offsets, cells,
-                                         cells_length, (uint32_t)io, width, handle, address, &flag);
+    uint32_t value = bios_fast_read_data(board->header, board->records, board->windows, board->cell_offsets,
+                                         given_const(cells, cells_length), cells_length, (uint32_t)io, width, handle,
+                                         address, &flag);
     *fault = (int)flag;
     return value;
 }
 
 int32_t pci_write_data(struct pci_board *board, uint8_t *cells, size_t cells_length, int io, unsigned width,
                        uint32_t handle, uint32_t address, uint32_t value) {
-    return bios_write_data(board->header, board->records, board->windows, board->cell_offsets, cells, cells_length,
-                           (uint32_t)io, width, handle, address, value);
+    LENT({board, sizeof *board}, {cells, cells_length});
+    return bios_write_data(board->header, board->records, board->windows, board->cell_offsets,
+                           given(cells, cells_length), cells_length, (uint32_t)io, width, handle, address, value);
 }
 
 int32_t pci_bus_to_cpu(const struct pci_board *board, uint32_t handle, uint32_t address, uint32_t *cpu) {
+    LENT({board, sizeof *board}, {cpu, sizeof *cpu});
     return bios_bus_to_cpu(board->header, board->records, handle, address, cpu);
 }
 
 int32_t pci_cpu_to_bus(const struct pci_board *board, uint32_t handle, uint32_t address, uint32_t *bus) {
+    LENT({board, sizeof *board}, {bus, sizeof *bus});
     return bios_cpu_to_bus(board->header, board->records, handle, address, bus);
 }
 
 int32_t pci_get_resource(const struct pci_board *board, uint32_t handle, uint8_t *out, size_t length) {
-    return bios_get_resource(board->header, board->records, board->registers, board->windows, handle, out, length);
+    LENT({board, sizeof *board}, {out, length});
+    return bios_get_resource(board->header, board->records, board->registers, board->windows, handle,
+                             given(out, length), length);
 }
 
 int32_t pci_descriptor_step(const uint8_t *bytes, size_t length, size_t at, struct pci_descriptor *descriptor,
                             size_t *following) {
+    LENT({bytes, length}, {descriptor, sizeof *descriptor}, {following, sizeof *following});
     uint32_t fields[6];
-    uint32_t found = bios_descriptor_step(bytes, length, at, fields, following);
+    uint32_t found = bios_descriptor_step(given_const(bytes, length), length, at, fields, following);
     descriptor->next = (uint16_t)fields[0];
     descriptor->flags = (uint16_t)fields[1];
     descriptor->start = fields[2];
@@ -155,6 +216,7 @@ int32_t pci_unhook_interrupt(struct pci_board *board, uint32_t handle) {
 
 int32_t pci_list_chain(const struct pci_board *board, uint32_t line, uint32_t place, uint32_t *handle,
                        uint32_t *handler, uint32_t *parameter) {
+    LENT({board, sizeof *board}, {handle, sizeof *handle}, {handler, sizeof *handler}, {parameter, sizeof *parameter});
     uint64_t values[6];
     int32_t number = bios_list_chain(board->records, board->hooks, line, place, values);
     *handle = (uint32_t)values[0];
@@ -164,6 +226,7 @@ int32_t pci_list_chain(const struct pci_board *board, uint32_t line, uint32_t pl
 }
 
 int32_t pci_get_card_used(const struct pci_board *board, uint32_t handle, uint32_t *status, uint32_t *callback) {
+    LENT({board, sizeof *board}, {status, sizeof *status}, {callback, sizeof *callback});
     return bios_get_card_used(board->header, board->used, handle, status, callback);
 }
 

@@ -1,4 +1,4 @@
-/* The calls on a modelled board, for C. Link host/pci_bios.c and target/staticlib/libbios.a, which `rt staticlib bios` makes. */
+/* The calls on a modelled board, for C. Link pci_bios.c and target/staticlib/libbios.a, of `rt staticlib bios`. */
 #ifndef PCI_BIOS_H
 #define PCI_BIOS_H
 
@@ -29,9 +29,10 @@ struct pci_descriptor {
     uint32_t start, length, offset, dmaoffset;
 };
 
-/* Buffers that are lent to one call overlap neither each other nor the board. */
+/* What is lent to one call, buffers and the places of results, overlaps neither itself nor the board; a build without
+   NDEBUG asserts it. A buffer of length 0 may be NULL. Every call writes the places of its results, refused or not. */
 
-/* The number of the first refusal of an image, 0 for none, 8 left out; with 6 the place of the record at fault, else 0. */
+/* The number of an image's first refusal, 0 for none, 8 left out; with 6 the place of the record at fault, else 0. */
 int32_t pci_check_image(const uint8_t *image, size_t length, uint32_t *place);
 
 /* Loads an image; number and place as above, and 8 where the cells are too short. A refused load changes nothing. */
