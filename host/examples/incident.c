@@ -1,4 +1,4 @@
-/* The incident, replayed on the board whose image is on standard input: two sizers on one line, and a shell chip that
+/* The incident, replayed on the board whose image is on standard input: two sizers on one line, and a stray sample that
    is sized as bin 256 of card one, which by address is bin 0 of card two. */
 #include <inttypes.h>
 #include <stdio.h>
@@ -81,7 +81,7 @@ int main(void) {
     if (read_bins(0, before[0]) != 0 || read_bins(1, before[1]) != 0)
         return 1;
 
-    printf("the shell chip\n");
+    printf("the stray sample\n");
     sample(0, 256);
     if (read_bins(0, after[0]) != 0 || read_bins(1, after[1]) != 0)
         return 1;
