@@ -1,3 +1,2 @@
 -- The laws that proofs here and above cite.
 pub mod Cells
-pub mod Windows

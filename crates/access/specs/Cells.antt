@@ -13,7 +13,7 @@ use Rattle.find_window.specs.declared.find.Finding.the-variants.{Found, BadHand
 use Rattle.access.specs.declared.place.Place.{Place}
 use Rattle.access.specs.declared.place.Place.the-variants.{At, Refused}
 use Rattle.find_window.specs.Find.{statusOf, findIn}
-use Rattle.access.specs.Orders.{placed, ordered}
+use Rattle.byte_order.specs.Orders.{placed, ordered}
 
 -- the first cell of an access, and the byte order; cells past the buffer, which only an altered board has, give -7, tested last
 abbrev pub cellsAt : ℕ → ℕ → ℕ → ℕ → ℕ → Place

@@ -1,6 +1,4 @@
 -- The definitions that contracts cite, and the statements about them.
-pub mod Orders
 pub mod Cells
 pub mod Data
-pub mod Convert
 pub mod Meaning

@@ -4,9 +4,6 @@ use mathlib.Core.List.{List}
 use mathlib.Core.Logic.{_⊎_}
 use mathlib.Core.Path.{_≡_}
 use lib.ListN.{length, getD}
-use Rattle.numbers.specs.Numbers.{bytes}
-use Rattle.numbers.specs.declared.number.Width.{Width}
-use Rattle.access.specs.Orders.{placed}
 use Rattle.access.specs.Cells.{valueAt, cellsAfter}
 
 -- a read after a write of the same width at the same place gives the value written, in every order
@@ -22,8 +19,3 @@ pub record OthersKept (order w at value : ℕ) (cells : List ℕ) : Type 0 where
 
 abbrev pub OnlyItsCells : Type 0
 OnlyItsCells = (order w at value : ℕ) (cells : List ℕ) → OthersKept order w at value cells
-
--- in every order the cells of an aligned access stay inside its window, whose length is 4 or more
-abbrev pub InsideWindow : Type 0
-InsideWindow =
-    (order : ℕ) (width : Width) (k o : ℕ) → 2 ≤ k → o < 2 ^ k → o % bytes width ≡ 0 → placed order (bytes width) o + bytes width ≤ 2 ^ k

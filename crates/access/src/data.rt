@@ -1,5 +1,4 @@
 // Reading and writing cells.
-use crate::order::ordered;
 use crate::place::Place;
 use crate::place::data_place;
 use board::address::BusAddress;
@@ -11,6 +10,7 @@ use board::read::FastRead;
 use board::read::Read;
 use board::read::refused_fast;
 use board::status::Status;
+use byte_order::order::ordered;
 use find_window::find::Space;
 use numbers::number::Width;
 use numbers::number::big_at;

@@ -1,5 +1,3 @@
-// Data calls: byte orders, reads and writes of cells; the address conversions.
-pub mod convert;
+// Data calls: where the cells of an access stand, reads and writes of cells.
 pub mod data;
-mod order;
 pub mod place;

@@ -1,5 +1,4 @@
 // Where the cells of an access stand.
-use crate::order::placed;
 use board::address::BusAddress;
 use board::layout::BASES;
 use board::layout::CellOffsets;
@@ -8,6 +7,7 @@ use board::layout::Records;
 use board::layout::Windows;
 use board::layout::byte_order;
 use board::status::Status;
+use byte_order::order::placed;
 use find_window::find::Finding;
 use find_window::find::Space;
 use find_window::find::find_window;

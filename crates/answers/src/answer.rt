@@ -1,11 +1,11 @@
 // The answer of each kind of outcome.
-use access::convert::ToBus;
-use access::convert::ToCpu;
 use board::read::FastRead;
 use board::read::Read;
 use board::status::Status;
 use card_used::used::CardUsed;
 use chain_listing::listing::ChainListing;
+use conversions::convert::ToBus;
+use conversions::convert::ToCpu;
 use reference::Answer;
 use reference::Values;
 use search::search::Search;

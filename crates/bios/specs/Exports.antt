@@ -2,12 +2,10 @@
 use Prim.Native.Nat.{ℕ}
 use mathlib.Core.Bool.{cond, true}
 use mathlib.Core.List.{List, [], _∷_, _++_}
-use lib.Dec.{eqb}
 use lib.IntN.{ℤ}
 use lib.ListN.{replicate}
 use Rattle.numbers.specs.Numbers.{bytes}
 use Rattle.board.specs.Statuses.{generalError}
-use Rattle.numbers.specs.declared.number.Width.the-variants.{Byte, Word, Long}
 use Rattle.board.specs.declared.address.BusAddress.{BusAddress}
 use Rattle.board.specs.declared.address.CpuAddress.{CpuAddress}
 use Rattle.board.specs.declared.status.Status.{Status}
@@ -18,19 +16,17 @@ use Rattle.config.specs.Write.{Wrote, wrote, writeConfig}
 use Rattle.board.specs.declared.read.Read.{Read}
 use Rattle.board.specs.declared.read.FastRead.{FastRead}
 use Rattle.access.specs.Data.{readData, fastReadData, writeData, Wrote as DataWrote, wrote as dataWrote}
-use Rattle.access.specs.declared.convert.ToBus.{ToBus}
-use Rattle.access.specs.declared.convert.ToCpu.{ToCpu}
-use Rattle.find_window.specs.declared.find.Space.{Space}
-use Rattle.find_window.specs.declared.find.Space.the-variants.{Memory, Io}
+use Rattle.conversions.specs.declared.convert.ToBus.{ToBus}
+use Rattle.conversions.specs.declared.convert.ToCpu.{ToCpu}
 use Rattle.interrupt.specs.Hooks.{Hook}
 use Rattle.chain_listing.specs.Listing.{chainNumber, chainValues}
 use Rattle.card_used.specs.declared.used.CardUsed.{CardUsed}
-use Rattle.resource.specs.declared.descriptor.Descriptor.{Descriptor}
+use Rattle.descriptor.specs.declared.descriptor.Descriptor.{Descriptor}
 use Rattle.walker.specs.declared.step.Step.{Step}
 use Rattle.walker.specs.declared.step.Step.the-variants.{Found as StepFound, Ended as StepEnded}
 use Rattle.image.specs.declared.check.Verdict.{Verdict}
-use Rattle.bios.specs.declared.width.AskedWidth.{AskedWidth}
-use Rattle.bios.specs.declared.width.AskedWidth.the-variants.{Known, Other}
+use Rattle.asked_width.specs.declared.width.AskedWidth.{AskedWidth}
+use Rattle.asked_width.specs.declared.width.AskedWidth.the-variants.{Known, Other}
 
 abbrev pub verdict : ℕ → ℕ → Verdict
 verdict number place = record { number = number; place = place }
@@ -73,13 +69,10 @@ abbrev pub stepShown : ℕ → Step → StepNumbers
 stepShown at (StepFound d next) = stepNumbers 1 (fieldsShown d) next
 stepShown at StepEnded = stepNumbers 0 (replicate 6 0) at
 
--- a width for C: 1, 2 or 4; another is refused with -8, and a fast read of it gives all ones
-abbrev pub widthOf : ℕ → AskedWidth
-widthOf w = cond (eqb w 1) (Known Byte) (cond (eqb w 2) (Known Word) (cond (eqb w 4) (Known Long) Other))
-
 abbrev pub readNumbers : ℤ → ℕ → Read
 readNumbers number value = record { status = status number; value = value }
 
+-- another width than 1, 2 or 4 is refused with -8, and a fast read of it gives all ones
 abbrev pub askedRead : AskedWidth → List ℕ → List ℕ → ℕ → ℕ → Read
 askedRead (Known width) header registers handle register = readConfig (bytes width) header registers handle register
 askedRead Other header registers handle register = record { status = generalError; value = 0 }
@@ -103,10 +96,6 @@ fastNumbers value fault = record { value = value; fault = fault }
 
 abbrev pub fastShown : FastRead → Fast
 fastShown r = fastNumbers (r .value) (cond (r .fault) 1 0)
-
--- a space for C: 0 is memory, every other number I/O
-abbrev pub spaceOf : ℕ → Space
-spaceOf io = cond (eqb io 0) Memory Io
 
 -- data calls of a width for C
 abbrev pub askedData : AskedWidth → List ℕ → List ℕ → List ℕ → List ℕ → List ℕ → ℕ → ℕ → ℕ → Read

@@ -1,8 +1,8 @@
 // Searches and configuration calls for C. A width is a number here; another than 1, 2 or 4 is refused before all else.
-use crate::width::AskedWidth;
-use crate::width::width_of;
 use answers::searches::class_answer;
 use answers::searches::device_answer;
+use asked_width::width::AskedWidth;
+use asked_width::width::width_of;
 use board::layout::Header;
 use board::layout::Records;
 use board::layout::Registers;
@@ -16,7 +16,8 @@ ghost use Rattle.board.specs.Handles.{functionCount};
 ghost use Rattle.board.specs.Layout.{registerByte};
 ghost use Rattle.search.specs.Search.{devices, classes, searchNumber};
 ghost use Rattle.config.specs.Write.{wrote};
-ghost use Rattle.bios.specs.Exports.{status, widthOf, readNumbers, askedRead, fastNumbers, fastShown, askedFastRead, askedWrite};
+ghost use Rattle.asked_width.specs.Widths.{widthOf};
+ghost use Rattle.bios.specs.Exports.{status, readNumbers, askedRead, fastNumbers, fastShown, askedFastRead, askedWrite};
 
 // The handle of the match with so many matches before it, or -4.
 #[no_mangle]

@@ -1,12 +1,10 @@
 // Data calls and address conversions for C. A width is a number here; another than 1, 2 or 4 is refused before all else.
-use crate::width::AskedWidth;
-use crate::width::space_of;
-use crate::width::width_of;
-use access::convert::bus_to_cpu;
-use access::convert::cpu_to_bus;
 use access::data::fast_read_data;
 use access::data::read_data;
 use access::data::write_data;
+use asked_width::width::AskedWidth;
+use asked_width::width::space_of;
+use asked_width::width::width_of;
 use board::address::BusAddress;
 use board::address::CpuAddress;
 use board::layout::CellOffsets;
@@ -14,11 +12,14 @@ use board::layout::Header;
 use board::layout::Records;
 use board::layout::Windows;
 use board::status::Status;
+use conversions::convert::bus_to_cpu;
+use conversions::convert::cpu_to_bus;
 ghost use mathlib.Core.Path.{_≡_};
-ghost use Rattle.access.specs.Convert.{busToCpu, cpuToBus};
+ghost use Rattle.conversions.specs.Convert.{busToCpu, cpuToBus};
 ghost use Rattle.access.specs.Data.{wrote};
 ghost use Rattle.find_window.specs.Find.{spaceNumber};
-ghost use Rattle.bios.specs.Exports.{status, bus, cpu, widthOf, spaceOf, readNumbers, fastNumbers, fastShown, askedData, askedFastData, askedDataWrite, toCpu, toBus};
+ghost use Rattle.asked_width.specs.Widths.{widthOf, spaceOf};
+ghost use Rattle.bios.specs.Exports.{status, bus, cpu, readNumbers, fastNumbers, fastShown, askedData, askedFastData, askedDataWrite, toCpu, toBus};
 
 // Reads a number of a width in a window; the value, 0 where it is refused, goes to `value`.
 #[no_mangle]

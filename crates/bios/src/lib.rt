@@ -5,4 +5,3 @@ pub mod exports;
 pub mod interrupt_exports;
 pub mod resource_exports;
 pub mod script_exports;
-mod width;

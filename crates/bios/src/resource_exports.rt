@@ -3,7 +3,7 @@ use board::layout::Header;
 use board::layout::Records;
 use board::layout::Registers;
 use board::layout::Windows;
-use resource::descriptor::Descriptor;
+use descriptor::descriptor::Descriptor;
 use resource::resource::get_resource;
 use walker::step::Step;
 use walker::step::descriptor_step;

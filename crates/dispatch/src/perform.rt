@@ -1,6 +1,4 @@
 // Every call on a board through one function.
-use access::convert::bus_to_cpu;
-use access::convert::cpu_to_bus;
 use access::data::fast_read_data;
 use access::data::read_data;
 use access::data::write_data;
@@ -28,6 +26,8 @@ use chain_listing::listing::list_chain;
 use config::read::fast_read_config;
 use config::read::read_config;
 use config::write::write_config;
+use conversions::convert::bus_to_cpu;
+use conversions::convert::cpu_to_bus;
 use image::write::write_image;
 use interrupt::chain::hook_interrupt;
 use interrupt::chain::unhook_interrupt;

@@ -7,7 +7,7 @@ use Rattle.window_listing.specs.Listing.{listedNumber, listedValues}
 use Rattle.config.specs.Target.{target}
 use Rattle.search.specs.Search.{matching, searchNumber}
 use Rattle.find_window.specs.Find.{inList, find}
-use Rattle.resource.specs.Descriptor.{descriptorBytes, bytesOf}
+use Rattle.descriptor.specs.Descriptor.{descriptorBytes, bytesOf}
 use Rattle.resource.specs.Resource.{windowsFrom, startIn, described, resource}
 use Rattle.chain_listing.specs.Listing.{placeNumber, placeValues}
 use Rattle.interrupt.specs.Meaning.{isAmong}

@@ -8,7 +8,7 @@ use Rattle.numbers.specs.Numbers.{bigBytes}
 use Rattle.board.specs.Statuses.{successful, deviceNotFound, generalError}
 use Rattle.numbers.specs.declared.number.Width.the-variants.{Byte, Long}
 use Rattle.access.specs.Cells.{valueAt}
-use Rattle.access.specs.Orders.{placed}
+use Rattle.byte_order.specs.Orders.{placed}
 use Rattle.find_window.specs.declared.find.Space.the-variants.{Memory}
 use Rattle.reference.specs.declared.Answer.{Answer}
 use Rattle.reference.specs.declared.Call.{Call}

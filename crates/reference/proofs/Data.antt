@@ -16,7 +16,7 @@ use Rattle.window_list.specs.Windows.{Window}
 use Rattle.window_list.proofs.KeptArray.{kept-of}
 use Rattle.access.specs.Cells.{placeOf, dataPlace}
 use Rattle.find_window.specs.Find.{spaceNumber, holds, offers, inList, find, findIn}
-use Rattle.access.specs.Orders.{placed}
+use Rattle.byte_order.specs.Orders.{placed}
 use Rattle.find_window.specs.declared.find.Finding.{Finding}
 use Rattle.find_window.specs.declared.find.Finding.the-variants.{Found, BadHandle, ShortCells, NotAligned, Nothing, Contested, WidthMissing}
 use Rattle.find_window.specs.declared.find.Space.{Space}

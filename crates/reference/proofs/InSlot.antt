@@ -17,13 +17,13 @@ use Rattle.numbers.proofs.Tests.{both-true}
 use Rattle.window_list.specs.Windows.{Window, startOf, isOpen}
 use Rattle.window_list.specs.Meaning.{OpenAt}
 use Rattle.window_list.proofs.Meaning.{means}
-use Rattle.access.specs.Orders.{placed}
+use Rattle.byte_order.specs.Orders.{placed}
 use Rattle.find_window.specs.declared.find.Finding.{Finding}
 use Rattle.find_window.specs.declared.find.Finding.the-variants.{Found, BadHandle, ShortCells, NotAligned, Nothing, Contested, WidthMissing}
 use Rattle.access.specs.declared.place.Place.the-variants.{At}
 use Rattle.find_window.proofs.Searches.{Held, held}
 use Rattle.find_window.proofs.Meaning.{found-means}
-use Rattle.access.proofs.Windows.{inside-window}
+use Rattle.byte_order.proofs.Windows.{inside-window}
 use Rattle.cells.specs.Cells.{cellCount, slotCells, cellsBefore}
 use Rattle.reference.specs.Reference.{Reference, entryOf, exponentOf, windowsOf, findFor, placeIn, placeFor}
 

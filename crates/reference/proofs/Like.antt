@@ -12,7 +12,7 @@ use Rattle.board.specs.Layout.{functionsMax, bases, windowsMax}
 use Rattle.numbers.specs.Numbers.{byteAt, bigBytes}
 use Rattle.numbers.proofs.Numbers.{big-same}
 use Rattle.access.specs.Cells.{valueAt, cellsAfter}
-use Rattle.access.specs.Orders.{ordered}
+use Rattle.byte_order.specs.Orders.{ordered}
 use Rattle.access.proofs.Cells.{only-its-cells}
 use Rattle.cells.specs.Cells.{slotCells, cellsBefore, total, zeroed}
 use Rattle.cells.proofs.Ranges.{before-apart}

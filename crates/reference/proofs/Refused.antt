@@ -8,7 +8,7 @@ use lib.Dec.{eqb, leb, ltb}
 use lib.ListN.{length}
 use Rattle.board.specs.Parts.{Parts, withHooks, withUsed}
 use Rattle.board.specs.Handles.{isHandle}
-use Rattle.resource.specs.Descriptor.{size}
+use Rattle.descriptor.specs.Descriptor.{size}
 use Rattle.resource.specs.Resource.{Gave, windowBases, resource, sourceOf}
 use Rattle.interrupt.specs.Hooks.{Hook, lineOf, pinOf, lastLine, chainOf}
 use Rattle.interrupt.specs.Chain.{Changed, isRouted, isHooked, isFree}

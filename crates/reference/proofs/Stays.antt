@@ -12,7 +12,7 @@ use lib.Seq.{sets, length-sets}
 use borrow.Author.Tests.{ltb-false, ne-eqb, eqb-false}
 use Rattle.board.specs.Layout.{functionsMax, markSize}
 use Rattle.numbers.proofs.Stores.{sets-other}
-use Rattle.resource.specs.Descriptor.{size, bytesOf}
+use Rattle.descriptor.specs.Descriptor.{size, bytesOf}
 use Rattle.resource.specs.Resource.{Gave, windowBases, descriptors, resource}
 use Rattle.resource.proofs.Shows.{described-size}
 use Rattle.interrupt.specs.Hooks.{Hook}

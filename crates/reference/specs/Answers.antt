@@ -7,8 +7,8 @@ use lib.ListN.{replicate}
 use Rattle.board.specs.declared.status.Status.{Status}
 use Rattle.board.specs.declared.read.Read.{Read}
 use Rattle.board.specs.declared.read.FastRead.{FastRead}
-use Rattle.access.specs.declared.convert.ToBus.{ToBus}
-use Rattle.access.specs.declared.convert.ToCpu.{ToCpu}
+use Rattle.conversions.specs.declared.convert.ToBus.{ToBus}
+use Rattle.conversions.specs.declared.convert.ToCpu.{ToCpu}
 use Rattle.card_used.specs.declared.used.CardUsed.{CardUsed}
 use Rattle.image.specs.declared.check.Verdict.{Verdict}
 use Rattle.reference.specs.declared.Answer.{Answer}

@@ -15,7 +15,7 @@ use Rattle.config.specs.Write.{movesWindows}
 use Rattle.find_window.specs.Find.{spaceNumber}
 use Rattle.access.specs.declared.place.Place.{Place}
 use Rattle.access.specs.declared.place.Place.the-variants.{At, Refused}
-use Rattle.resource.specs.Descriptor.{size}
+use Rattle.descriptor.specs.Descriptor.{size}
 use Rattle.resource.specs.Resource.{windowBases}
 use Rattle.cells.specs.Cells.{slotCells, cellsBefore, total}
 use Rattle.image.specs.Image.{imageSize}

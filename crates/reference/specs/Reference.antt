@@ -17,10 +17,10 @@ use Rattle.search.specs.Search.{devices, classes, searchNumber}
 use Rattle.config.specs.declared.target.Target.{Target}
 use Rattle.config.specs.declared.target.Target.the-variants.{Function, Refused}
 use Rattle.access.specs.Cells.{cellsAfter}
-use Rattle.access.specs.Convert.{toCpu, toBus}
+use Rattle.conversions.specs.Convert.{toCpu, toBus}
 use Rattle.access.specs.Data.{readAt, fastReadAt}
 use Rattle.find_window.specs.Find.{spaceNumber, offers, find, statusOf}
-use Rattle.access.specs.Orders.{placed}
+use Rattle.byte_order.specs.Orders.{placed}
 use Rattle.find_window.specs.declared.find.Finding.{Finding}
 use Rattle.find_window.specs.declared.find.Finding.the-variants.{Found, BadHandle, ShortCells, NotAligned, Nothing, Contested, WidthMissing}
 use Rattle.access.specs.declared.place.Place.{Place}

@@ -11,7 +11,7 @@ use Rattle.window_listing.specs.Listing.{listing, numberOf, valuesOf}
 use Rattle.config.specs.Read.{readConfig, fastReadConfig}
 use Rattle.search.specs.Search.{devices, classes, searched, foundNumber}
 use Rattle.config.specs.Write.{writeConfig}
-use Rattle.access.specs.Convert.{busToCpu, cpuToBus}
+use Rattle.conversions.specs.Convert.{busToCpu, cpuToBus}
 use Rattle.access.specs.Data.{readData, fastReadData, writeData}
 use Rattle.find_window.specs.Find.{spaceNumber}
 use Rattle.resource.specs.Resource.{getResource}

@@ -15,10 +15,11 @@ use Rattle.numbers.proofs.Numbers.{big-bytes, big-below}
 use Rattle.numbers.proofs.Tables.{table-length}
 use Rattle.window_list.specs.Kept.{unpack, unpacked}
 use Rattle.window_list.specs.Windows.{spaceOf}
-use Rattle.resource.specs.declared.descriptor.Descriptor.{Descriptor}
-use Rattle.resource.specs.Descriptor.{flags, descriptorBytes, fieldsAt}
+use Rattle.descriptor.specs.declared.descriptor.Descriptor.{Descriptor}
+use Rattle.descriptor.specs.Descriptor.{flags, descriptorBytes, fieldsAt}
 use Rattle.resource.specs.Resource.{isWindow, isOf, startIn, descriptorOf, sourceOf}
-use Rattle.resource.proofs.Fields.{window-small, shown-small}
+use Rattle.descriptor.proofs.Fields.{shown-small}
+use Rattle.resource.proofs.Turns.{window-small}
 
 -- a number of w bytes in a list, m places after others
 field : (w v m : ℕ) (l before mid after : List ℕ) → v < 256 ^ w → length mid ≡ m → l ≡ before ++ (mid ++ (bigBytes w v ++ after))

@@ -1,5 +1,4 @@
 -- The laws that proofs here and above cite.
-pub mod Fields
 pub mod Turns
 pub mod Back
 pub mod Shows

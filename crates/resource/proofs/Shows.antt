@@ -16,11 +16,11 @@ use Rattle.board.specs.Statuses.{successful, bufferTooSmall, generalError, badH
 use Rattle.board.specs.declared.status.Status.{Status}
 use Rattle.numbers.proofs.Stores.{sets-other}
 use Rattle.window_list.specs.Windows.{spaceOf}
-use Rattle.resource.specs.declared.descriptor.Descriptor.{Descriptor}
-use Rattle.resource.specs.Descriptor.{size, descriptorBytes, bytesOf, fieldsAt}
+use Rattle.descriptor.specs.declared.descriptor.Descriptor.{Descriptor}
+use Rattle.descriptor.specs.Descriptor.{size, descriptorBytes, bytesOf, fieldsAt}
 use Rattle.resource.specs.Resource.{isWindow, windowsFrom, windowBases, Source, descriptorOf, described, descriptors, Gave, gave, resource, sourceOf, getResource}
 use Rattle.resource.specs.Meaning.{Shows, ResourceShows}
-use Rattle.resource.proofs.Fields.{bytes-size}
+use Rattle.descriptor.proofs.Fields.{bytes-size}
 use Rattle.resource.proofs.Turns.{last-one}
 use Rattle.resource.proofs.Back.{Small, fields-back, last-flag, parts-small}
 

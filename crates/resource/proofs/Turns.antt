@@ -4,16 +4,21 @@ use native.Mathlib.Omega.{arith}
 use mathlib.Core.Bool.{Bool, true, false, cond}
 use mathlib.Core.List.{List, [], _∷_}
 use mathlib.Core.Path.{_≡_, refl, sym, _∙_}
-use lib.Dec.{eqb}
+use lib.Dec.{eqb, leb}
 use lib.ListN.{length, getD, drop}
 use lib.Seq.{sets}
-use borrow.Author.Tests.{eq-eqb, ne-eqb}
+use borrow.Author.Tests.{eq-eqb, ne-eqb, leb-true}
+use Rattle.numbers.proofs.Tests.{both-true}
 use Rattle.board.specs.Layout.{bases}
 use Rattle.window_list.specs.Kept.{unpack, unpacked}
 use Rattle.window_list.proofs.Unpacked.{unpacked-none, unpacked-one, unpacked-end}
-use Rattle.resource.specs.Descriptor.{size, descriptorBytes, bytesOf}
+use Rattle.descriptor.specs.Descriptor.{size, descriptorBytes, bytesOf}
 use Rattle.resource.specs.Resource.{isWindow, windowsFrom, isOf, shownStart, startIn, Source, descriptorOf, described}
-use Rattle.resource.proofs.Fields.{after, bytes-size}
+use Rattle.descriptor.proofs.Fields.{after, bytes-size}
+
+-- the exponent of a window
+pub window-small : (k : ℕ) → isWindow k ≡ true → k ≤ 16
+window-small k e = leb-true k 16 (both-true (leb 2 k) _ e .1)
 
 module _ (handle b : ℕ) (l : List ℕ) (j : ℕ) where
   -- the number there is no window, the window of the base register, another window; or there is none

@@ -11,8 +11,8 @@ use Rattle.board.specs.Statuses.{successful, bufferTooSmall, generalError, badH
 use Rattle.board.specs.declared.status.Status.{Status}
 use Rattle.window_list.specs.Kept.{unpacked}
 use Rattle.window_list.specs.Windows.{Window, spaceOf}
-use Rattle.resource.specs.declared.descriptor.Descriptor.{Descriptor}
-use Rattle.resource.specs.Descriptor.{size, flags, bytesOf}
+use Rattle.descriptor.specs.declared.descriptor.Descriptor.{Descriptor}
+use Rattle.descriptor.specs.Descriptor.{size, flags, bytesOf}
 
 -- an exponent outside 2..16 is no window
 abbrev pub isWindow : ℕ → Bool

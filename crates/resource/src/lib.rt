@@ -1,3 +1,2 @@
 // Descriptors of a function's windows.
-pub mod descriptor;
 pub mod resource;

@@ -1,9 +1,4 @@
 // The descriptors of a function's windows, in base register order.
-use crate::descriptor::Descriptor;
-use crate::descriptor::NEXT;
-use crate::descriptor::SIZE;
-use crate::descriptor::flags;
-use crate::descriptor::put;
 use board::handle::is_handle;
 use board::layout::BASES;
 use board::layout::Header;
@@ -17,6 +12,11 @@ use board::layout::exponent;
 use board::layout::offset;
 use board::layout::widths;
 use board::status::Status;
+use descriptor::descriptor::Descriptor;
+use descriptor::descriptor::NEXT;
+use descriptor::descriptor::SIZE;
+use descriptor::descriptor::flags;
+use descriptor::descriptor::put;
 use numbers::number::power;
 use window_list::kept::base_of;
 use window_list::kept::handle_of;
@@ -27,10 +27,10 @@ ghost use mathlib.Core.Bool.{true};
 ghost use mathlib.Core.Path.{_≡_};
 ghost use lib.ListN.{length};
 ghost use lib.Seq.{sets};
-ghost use Prim.Native.Nat.{_-_, _*_, _^_, _≤_};
+ghost use Prim.Native.Nat.{_-_, _^_, _≤_};
 ghost use Rattle.board.specs.Layout.{exponent};
 ghost use Rattle.window_list.specs.Kept.{unpack, unpacked};
-ghost use Rattle.resource.specs.Descriptor.{size, bytesOf};
+ghost use Rattle.descriptor.specs.Descriptor.{bytesOf};
 ghost use Rattle.resource.specs.Resource.{isWindow, windowBases, isOf, shownStart, startIn, descriptorOf, descriptors, sourceOf, gave, getResource};
 
 // The place of a handle's function; of 0, which is no handle, place 0.
@@ -147,7 +147,7 @@ fn put_all(
     count: usize,
     out: &mut [u8],
 )
-    requires { ⌜ (count ≡ length (windowBases (exponent (now records) (handle - 1)))) × (size * count ≤ length (now out)) ⌝ }
+    requires { ⌜ count ≡ length (windowBases (exponent (now records) (handle - 1))) ⌝ }
     ensures { λ _. ⌜ now (out .exit) ≡ sets (now (out .entry)) 0 (bytesOf (descriptors (sourceOf (now (records .entry)) (now (registers .entry)) (now (windows .entry)) handle))) ⌝ }
 {
     let function = place(handle);

@@ -11,14 +11,14 @@ use lib.Seq.{sets-eq}
 use borrow.Author.Tests.{le-leb}
 use Rattle.board.specs.Layout.{bases}
 use Rattle.window_list.specs.Windows.{spaceOf}
-use Rattle.resource.specs.declared.descriptor.Descriptor.{Descriptor}
+use Rattle.descriptor.specs.declared.descriptor.Descriptor.{Descriptor}
 use Rattle.walker.specs.declared.step.Step.{Step}
 use Rattle.walker.specs.declared.step.Step.the-variants.{Found}
-use Rattle.resource.specs.Descriptor.{size, descriptorBytes, bytesOf, isLast}
+use Rattle.descriptor.specs.Descriptor.{size, descriptorBytes, bytesOf, isLast}
 use Rattle.resource.specs.Resource.{windowBases, Source, descriptorOf, described, descriptors, sourceOf}
 use Rattle.walker.specs.Walk.{following, stepAt, handed, walk}
 use Rattle.walker.specs.Meaning.{WalkBack}
-use Rattle.resource.proofs.Fields.{bytes-size}
+use Rattle.descriptor.proofs.Fields.{bytes-size}
 use Rattle.resource.proofs.Back.{Small, fields-back, last-flag, parts-small}
 use Rattle.resource.proofs.Shows.{windows-have, described-size, call-accepted}
 use Rattle.walker.proofs.Walks.{step-none, walk-steps}

@@ -8,10 +8,10 @@ use lib.Dec.{leb}
 use lib.ListN.{length, drop}
 use lib.Seq.{drop-nil}
 use borrow.Author.Tests.{leb-true, lt-leb}
-use Rattle.resource.specs.declared.descriptor.Descriptor.{Descriptor}
+use Rattle.descriptor.specs.declared.descriptor.Descriptor.{Descriptor}
 use Rattle.walker.specs.declared.step.Step.{Step}
 use Rattle.walker.specs.declared.step.Step.the-variants.{Found, Ended}
-use Rattle.resource.specs.Descriptor.{size, fieldsAt, isLast}
+use Rattle.descriptor.specs.Descriptor.{size, fieldsAt, isLast}
 use Rattle.walker.specs.Walk.{following, stepAt, position, handed, walkFor, walk, stands}
 use Rattle.walker.specs.Meaning.{WalkMeans}
 

@@ -4,7 +4,7 @@ use mathlib.Core.List.{List}
 use mathlib.Core.Path.{_≡_}
 use lib.ListN.{length, drop}
 use Rattle.board.specs.Statuses.{successful}
-use Rattle.resource.specs.Descriptor.{size}
+use Rattle.descriptor.specs.Descriptor.{size}
 use Rattle.resource.specs.Resource.{descriptors, sourceOf, getResource}
 use Rattle.walker.specs.declared.step.Step.the-variants.{Ended}
 use Rattle.walker.specs.Walk.{stepAt, handed, walk, stands}

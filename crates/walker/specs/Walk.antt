@@ -4,10 +4,10 @@ use mathlib.Core.Bool.{Bool, cond, not, _&&_}
 use mathlib.Core.List.{List, [], _∷_}
 use lib.Dec.{leb}
 use lib.ListN.{length}
-use Rattle.resource.specs.declared.descriptor.Descriptor.{Descriptor}
+use Rattle.descriptor.specs.declared.descriptor.Descriptor.{Descriptor}
 use Rattle.walker.specs.declared.step.Step.{Step}
 use Rattle.walker.specs.declared.step.Step.the-variants.{Found, Ended}
-use Rattle.resource.specs.Descriptor.{size, fieldsAt, isLast}
+use Rattle.descriptor.specs.Descriptor.{size, fieldsAt, isLast}
 
 -- a descriptor leads on unless it has the last mark or a next field below 20
 abbrev pub leadsOn : Descriptor → Bool

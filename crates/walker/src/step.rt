@@ -1,14 +1,14 @@
 // A step through descriptor bytes: the descriptor at a position, and the position after it.
+use descriptor::descriptor::Descriptor;
+use descriptor::descriptor::LAST;
+use descriptor::descriptor::NEXT;
+use descriptor::descriptor::SIZE;
 use numbers::number::Width;
 use numbers::number::big_at;
-use resource::descriptor::Descriptor;
-use resource::descriptor::LAST;
-use resource::descriptor::NEXT;
-use resource::descriptor::SIZE;
 ghost use mathlib.Core.Path.{_≡_};
 ghost use lib.ListN.{length};
 ghost use Prim.Native.Nat.{_+_, _^_, _<_, _≤_};
-ghost use Rattle.resource.specs.Descriptor.{size, fieldsAt};
+ghost use Rattle.descriptor.specs.Descriptor.{size, fieldsAt};
 ghost use Rattle.walker.specs.Walk.{following, stepAt, position};
 
 // What stands at a position: a descriptor with the position of the one after it, or no more.

@@ -1,5 +1,5 @@
 -- `descriptor_of`: each field is read as the definition reads it.
-use Rattle.resource.proofs.Fields.{window-small}
+use Rattle.resource.proofs.Turns.{window-small}
 use borrow.Author.Needs.{needs}
 use Rattle.resource.proofs.resource.descriptor_of.Statement.{statement}
 use Rattle.resource.proofs.resource.descriptor_of.Tie as tie

@@ -1,6 +1,6 @@
 -- `get_resource`: the checks in their order, then the descriptors.
 use mathlib.Core.Path.{sym, _∙_}
-use borrow.Author.Tests.{eq-eqb, ne-eqb, ltb-false, not-true, not-false}
+use borrow.Author.Tests.{eq-eqb, ne-eqb, not-true, not-false}
 use Rattle.board.specs.Layout.{bases, exponent}
 use Rattle.resource.specs.Resource.{resource}
 use Rattle.resource.proofs.Turns.{windows-few}
@@ -36,7 +36,7 @@ unfolding resource
 returns-3 c = rw (sym (c .before .before .before .before .before .is-handle .ensures) ∙ not-false _ (c .before .before .if1 .left), ← c .before .before .before .before .place .ensures, ← c .before .before .before .window-count .ensures, ne-eqb _ _ (c .before .if2 .left), c .if3 .taken)
 
 put-all-requires : tie.Need-put-all-requires
-put-all-requires c κs = (rw (← c .before .before .before .before .before .place .ensures) (c .before .before .before .before .window-count .ensures), ltb-false _ _ (c .before .if3 .left))
+put-all-requires c κs = rw (← c .before .before .before .before .before .place .ensures) (c .before .before .before .before .window-count .ensures)
 
 same-length : tie.Need-same-length
 same-length c = search needs

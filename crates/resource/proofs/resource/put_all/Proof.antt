@@ -5,7 +5,7 @@ use lib.ListN.{length}
 use lib.Seq.{sets, length-sets}
 use borrow.Author.Tests.{not-true, not-false}
 use Rattle.board.specs.Layout.{bases}
-use Rattle.resource.specs.Descriptor.{size, bytesOf}
+use Rattle.descriptor.specs.Descriptor.{size, bytesOf}
 use Rattle.resource.specs.Resource.{windowsFrom, described, descriptors, sourceOf}
 use Rattle.resource.proofs.Turns.{windows-one, windows-none, windows-end, last-one, put-more, put-end}
 use borrow.Author.Needs.{needs}
@@ -26,7 +26,7 @@ place-requires : tie.Need-place-requires Inv-loop μ-loop
 place-requires c κs = search needs
 
 loop-holds : tie.Need-loop-holds Inv-loop μ-loop
-loop-holds c = (omega arith, (refl, (omega (arith, c .before .before .pre .0), refl)))
+loop-holds c = (omega arith, (refl, (omega (arith, c .before .before .pre), refl)))
 
 cast-loop : tie.Need-cast-loop Inv-loop μ-loop
 cast-loop c = search needs
@@ -63,13 +63,7 @@ mul-put : tie.Need-mul-put Inv-loop μ-loop
 mul-put c = search needs
 
 put-requires : tie.Need-put-requires Inv-loop μ-loop
-put-requires c κs =
-    let d = c .before .before .before .before .before .before in
-    let a = d .before .before .before .args in
-    let s = sourceOf (a .records .now) (a .registers .now) (a .windows .now) (a .handle) in
-    let e = windows-one (s .exponent) (d .loop .b) (omega arith)
-    (rw (← d .before .place .ensures, ← c .before .before .before .before .exponent .ensures) (sym (c .before .before .before .is-window .ensures) ∙ not-false _ (c .before .before .if1 .left))) in
-    omega (arith, rw e at (d .loop .inv .1 .1 .0), d .loop .inv .1 .0, d .before .before .before .pre .1)
+put-requires c κs = search needs
 
 add-n : tie.Need-add-n Inv-loop μ-loop
 add-n c = search needs

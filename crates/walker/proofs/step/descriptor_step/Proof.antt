@@ -2,7 +2,7 @@
 use Prim.Native.Nat.{_+_}
 use lib.ListN.{length}
 use borrow.Author.Tests.{le-leb, lt-leb}
-use Rattle.resource.specs.Descriptor.{size}
+use Rattle.descriptor.specs.Descriptor.{size}
 use native.Mathlib.Omega.{arith}
 use Rattle.walker.proofs.step.descriptor_step.Statement.{statement}
 use Rattle.walker.proofs.step.descriptor_step.Tie as tie

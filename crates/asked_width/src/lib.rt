@@ -1,0 +1,2 @@
+// Widths and spaces as C asks for them.
+pub mod width;

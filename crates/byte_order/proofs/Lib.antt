@@ -1,0 +1,2 @@
+-- The law that crates above cite.
+pub mod Windows

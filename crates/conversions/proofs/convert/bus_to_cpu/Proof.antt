@@ -1,0 +1,32 @@
+-- `bus_to_cpu`: the handle is tested, then the offset of its function taken.
+use mathlib.Core.Path.{sym, _∙_}
+use denote.Ref.{now}
+use borrow.Author.Tests.{not-true, not-false}
+use Rattle.board.proofs.Handles.{handle-place}
+use borrow.Author.Needs.{needs}
+use Rattle.conversions.proofs.convert.bus_to_cpu.Statement.{statement}
+use Rattle.conversions.proofs.convert.bus_to_cpu.Tie as tie
+
+is-handle-requires : tie.Need-is-handle-requires
+is-handle-requires c κs = search needs
+
+returns : tie.Need-returns
+returns c = rw (sym (c .before .is-handle .ensures) ∙ not-true _ (c .if1 .taken))
+
+sub-offset : tie.Need-sub-offset
+sub-offset c = handle-place (now (c .before .before .args .header)) _ (sym (c .before .is-handle .ensures) ∙ not-false _ (c .if1 .left)) .0
+
+offset-requires : tie.Need-offset-requires
+offset-requires c κs = search needs
+
+to-cpu-requires : tie.Need-to-cpu-requires
+to-cpu-requires c κs = search needs
+
+returns-2 : tie.Need-returns-2
+returns-2 c =
+    rw (sym (c .before .before .before .is-handle .ensures) ∙ not-false _ (c .before .before .if1 .left), c .to-cpu .ensures, c .before .offset .ensures)
+
+pub bus-to-cpu-spec : {M : Type 1} → statement M
+bus-to-cpu-spec =
+    tie.close
+    (tie.spec is-handle-requires returns sub-offset offset-requires to-cpu-requires returns-2)

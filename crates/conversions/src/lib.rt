@@ -1,0 +1,2 @@
+// The conversions between bus addresses and CPU addresses.
+pub mod convert;
