@@ -8,7 +8,7 @@ use board::layout::Registers;
 use board::layout::Used;
 use board::layout::Windows;
 use image::check::check_image;
-use image::write::write_image;
+use image_writer::write::write_image;
 use load::calls::load;
 use load::calls::reset;
 use reference::Values;
@@ -18,7 +18,7 @@ ghost use Rattle.board.specs.Parts.{parts};
 ghost use Rattle.window_list.specs.Kept.{unpacked};
 ghost use Rattle.image.specs.Check.{checked};
 ghost use Rattle.load.specs.Load.{loaded, load, resetTo, reset};
-ghost use Rattle.image.specs.Write.{written, write};
+ghost use Rattle.image_writer.specs.Write.{written, write};
 ghost use Rattle.bios.specs.Exports.{verdict, status, shown, shownWindow};
 
 // The number of the first refusal of an image with so many cells, 0 for none; the place of a bad record, else 0, goes to `place`.

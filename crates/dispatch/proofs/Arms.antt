@@ -16,7 +16,7 @@ use Rattle.resource.specs.Resource.{gave, getResource}
 use Rattle.interrupt.specs.Chain.{Changed, changed}
 use Rattle.card_used.specs.Used.{marked, setCardUsed}
 use Rattle.load.specs.Load.{loaded, load, resetTo, reset}
-use Rattle.image.specs.Write.{written, write}
+use Rattle.image_writer.specs.Write.{written, write}
 use Rattle.image.specs.declared.check.Verdict.{Verdict}
 use Rattle.reference.specs.declared.Answer.{Answer}
 use Rattle.reference.specs.declared.Call.{Call}

@@ -28,7 +28,7 @@ use config::read::read_config;
 use config::write::write_config;
 use conversions::convert::bus_to_cpu;
 use conversions::convert::cpu_to_bus;
-use image::write::write_image;
+use image_writer::write::write_image;
 use interrupt::chain::hook_interrupt;
 use interrupt::chain::unhook_interrupt;
 use interrupt::unsupported::get_routing;

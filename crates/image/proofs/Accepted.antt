@@ -10,7 +10,7 @@ use lib.Seq.{length-take-le}
 use borrow.Author.Tests.{eq-eqb, ne-eqb, le-ltb, ltb-false, eqb-true, eqb-false, not-false}
 use Rattle.board.specs.Layout.{functionsMax, recordSize}
 use Rattle.numbers.proofs.Tests.{either-false}
-use Rattle.image.specs.Image.{trailerSize, imageSize, countOf, recordsOf}
+use Rattle.image_format.specs.Image.{trailerSize, imageSize, countOf, recordsOf}
 use Rattle.image.specs.Refusals.{Facts, imageMax, cellsMax, accepted, refused, badRecord, firstRefusal}
 use Rattle.image.specs.Steps.{formRefusal, recordsVerdict, cellsVerdict}
 use Rattle.image.specs.Check.{factsOf, checked}

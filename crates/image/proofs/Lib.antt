@@ -1,3 +1,2 @@
 -- The laws that proofs here and above cite.
-pub mod Lists
 pub mod Accepted

@@ -6,7 +6,7 @@ use lib.Dec.{ltb}
 use lib.ListN.{length}
 use Rattle.board.specs.Layout.{exponent}
 use Rattle.cells.specs.Cells.{total}
-use Rattle.image.specs.Image.{distanceOf, countOf, editionOf, sumOf, recordsOf, recordAt, sum}
+use Rattle.image_format.specs.Image.{distanceOf, countOf, editionOf, sumOf, recordsOf, recordAt, sum}
 use Rattle.image.specs.Refusals.{Facts, imageMax, refused, firstBad, firstRefusal}
 use Rattle.image.specs.declared.check.Verdict.{Verdict}
 

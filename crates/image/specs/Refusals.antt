@@ -5,7 +5,7 @@ use mathlib.Core.List.{List}
 use lib.Dec.{ltb, eqb}
 use Rattle.board.specs.Layout.{functionsMax}
 use Rattle.record.specs.Record.{recordOk}
-use Rattle.image.specs.Image.{trailerSize, imageSize}
+use Rattle.image_format.specs.Image.{trailerSize, imageSize}
 use Rattle.image.specs.declared.check.Verdict.{Verdict}
 
 -- bytes of an image at most, and of cells

@@ -3,7 +3,7 @@ use Prim.Native.Nat.{ℕ}
 use mathlib.Core.Bool.{not, cond, _||_}
 use lib.Dec.{ltb, eqb}
 use Rattle.board.specs.Layout.{functionsMax}
-use Rattle.image.specs.Image.{trailerSize, imageSize}
+use Rattle.image_format.specs.Image.{trailerSize, imageSize}
 use Rattle.image.specs.Refusals.{cellsMax, accepted, refused, badRecord}
 use Rattle.image.specs.declared.check.Verdict.{Verdict}
 

@@ -2,23 +2,22 @@
 use board::layout::FUNCTIONS;
 use board::layout::RECORD;
 use cells::cells::total_of;
+use image_format::sum::TRAILER;
+use image_format::sum::sum_of;
 use numbers::number::Width;
 use numbers::number::big_at;
-use numbers::number::wide;
 use record::rules::record_ok;
 ghost use mathlib.Core.Path.{_≡_};
 ghost use Prim.Native.Nat.{_*_, _<_, _≤_};
 ghost use lib.ListN.{length};
 ghost use Rattle.board.specs.Layout.{functionsMax, recordSize, exponent};
 ghost use Rattle.cells.specs.Cells.{total};
-ghost use Rattle.image.specs.Image.{imageSize, trailerSize, recordAt, sum};
+ghost use Rattle.image_format.specs.Image.{imageSize, trailerSize, recordAt, sum};
 ghost use Rattle.image.specs.Refusals.{firstBad};
 ghost use Rattle.image.specs.Steps.{formRefusal, cellsVerdict, recordsVerdict};
 ghost use Rattle.image.specs.Check.{judged, checked};
 
-// Bytes of the trailer, and of an image and of all cells at most.
-pub const TRAILER: usize = 12;
-
+// Bytes of an image and of all cells at most.
 pub const IMAGE: usize = 65536;
 
 pub const CELLS: u32 = 65536;
@@ -37,20 +36,6 @@ fn plain(number: u8) -> Verdict
         number: number,
         place: 0,
     }
-}
-
-// The sum of all bytes.
-pub(crate) fn sum_of(s: &[u8]) -> u32
-    requires { ⌜ length (now s) ≤ functionsMax * recordSize ⌝ }
-    ensures { λ r. ⌜ r ≡ sum (now (s .entry)) ⌝ }
-{
-    let mut t: u32 = 0;
-    let mut i = s.len();
-    while 0 < i {
-        i -= 1;
-        t = wide(s[i]) + t;
-    }
-    t
 }
 
 // The first of count records that breaks a rule, count where none does.

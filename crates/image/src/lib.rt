@@ -1,3 +1,2 @@
-// Board images: the check and the writer.
+// Board images: what one is, and the check.
 pub mod check;
-pub mod write;

@@ -6,10 +6,10 @@ use mathlib.Core.List.{List, [], _∷_, _++_}
 use lib.ListN.{length, getD, take, drop, set, replicate, length-append, length-replicate, length-drop}
 use lib.Seq.{getD-append-add, getD-drop}
 use Rattle.board.specs.Layout.{functionsMax, recordSize, entriesAt, entrySize, bases, windowsMax, exponent}
-use Rattle.image.specs.Image.{imageSize, countOf, recordsOf}
+use Rattle.image_format.specs.Image.{imageSize, countOf, recordsOf}
 use Rattle.load.specs.Load.{padded}
 use Rattle.cells.specs.Cells.{total, zeroed}
-use Rattle.image.proofs.Lists.{copied}
+use Rattle.image_writer.proofs.Lists.{copied}
 use Rattle.cells.proofs.Ranges.{before-same}
 
 pub zeroed-more : (i : ℕ) (l : List ℕ) → i < length l → set (zeroed i l) i 0 ≡ zeroed (suc i) l

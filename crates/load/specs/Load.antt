@@ -12,7 +12,7 @@ use Rattle.board.specs.Layout.{functionsMax, recordSize, registersEach, hookSiz
 use Rattle.window_list.specs.Windows.{windowList}
 use Rattle.window_list.specs.Kept.{keptList}
 use Rattle.cells.specs.Cells.{offsetsOf, zeroed}
-use Rattle.image.specs.Image.{countOf, recordsOf}
+use Rattle.image_format.specs.Image.{countOf, recordsOf}
 use Rattle.image.specs.Check.{checked}
 use Rattle.image.specs.declared.check.Verdict.{Verdict}
 

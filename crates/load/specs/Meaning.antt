@@ -5,9 +5,9 @@ use mathlib.Core.Path.{_≡_}
 use lib.ListN.{length}
 use Rattle.numbers.specs.Numbers.{byteAt}
 use Rattle.board.specs.Parts.{Parts}
-use Rattle.image.specs.Image.{imageSize, countOf}
+use Rattle.image_format.specs.Image.{imageSize, countOf}
 use Rattle.image.specs.Refusals.{accepted}
-use Rattle.image.specs.Write.{Written, write}
+use Rattle.image_writer.specs.Write.{Written, write}
 use Rattle.load.specs.Load.{load}
 
 -- what the writer leaves of a board that was loaded from an image

@@ -4,7 +4,7 @@ use mathlib.Core.List.{List, [], _∷_}
 use mathlib.Core.Path.{_≡_}
 use Rattle.board.specs.Layout.{exponent}
 use Rattle.cells.specs.Cells.{offsetsOf}
-use Rattle.image.specs.Image.{countOf, recordsOf}
+use Rattle.image_format.specs.Image.{countOf, recordsOf}
 use Rattle.load.specs.Load.{padded}
 
 -- header, records and offsets of an accepted image; all else follows from them

@@ -6,14 +6,14 @@ use board::layout::RECORD;
 use board::layout::Records;
 use bytes::copy;
 use cells::cells::place_cells;
-use image::check::TRAILER;
+use image_format::sum::TRAILER;
 use numbers::number::Width;
 use numbers::number::big_at;
 ghost use mathlib.Core.Path.{_≡_};
 ghost use Prim.Native.Nat.{_≤_};
 ghost use lib.ListN.{length};
 ghost use Rattle.board.specs.Layout.{functionsMax};
-ghost use Rattle.image.specs.Image.{imageSize, countOf, recordsOf};
+ghost use Rattle.image_format.specs.Image.{imageSize, countOf, recordsOf};
 ghost use Rattle.load.specs.Load.{padded};
 ghost use Rattle.load.specs.Steps.{Installed};
 

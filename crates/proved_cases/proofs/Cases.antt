@@ -14,7 +14,7 @@ use Rattle.interrupt.specs.Meaning.{isAmong}
 use Rattle.window_entry.specs.Entry.{entryOk}
 use Rattle.record.specs.Record.{recordOk}
 use Rattle.cells.specs.Cells.{cellsBefore}
-use Rattle.image.specs.Image.{sum}
+use Rattle.image_format.specs.Image.{sum}
 use Rattle.image.specs.Refusals.{firstBad, firstRefusal}
 use Rattle.reference.specs.Reference.{placeIn, split, verdict, referenceStep}
 use Rattle.reference.specs.Run.{referenceAnswers}

@@ -16,7 +16,7 @@ use Rattle.config.specs.Target.{target}
 use Rattle.window_entry.specs.Entry.{entryOk}
 use Rattle.record.specs.Record.{recordOk}
 use Rattle.cells.specs.Cells.{cellsBefore}
-use Rattle.image.specs.Image.{sum}
+use Rattle.image_format.specs.Image.{sum}
 use Rattle.image.specs.Refusals.{firstBad, firstRefusal}
 use Rattle.reference.specs.Reference.{split, verdict, referenceStep}
 use Rattle.reference.specs.Run.{Heard}

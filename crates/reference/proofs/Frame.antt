@@ -13,8 +13,8 @@ use Rattle.numbers.specs.Numbers.{bytes}
 use Rattle.config.specs.Write.{movesWindows}
 use Rattle.find_window.specs.Find.{spaceNumber}
 use Rattle.cells.specs.Cells.{total}
-use Rattle.image.specs.Image.{imageSize, sum, trailer}
-use Rattle.image.proofs.Lists.{trailer-length}
+use Rattle.image_format.specs.Image.{imageSize, sum, trailer}
+use Rattle.image_writer.proofs.Lists.{trailer-length}
 use Rattle.reference.specs.declared.Call.{Call}
 use Rattle.reference.specs.declared.Call.the-variants.{Load, Reset, WriteImage, FindPciDevice, FindPciClasscode, ReadConfig, FastReadConfig, WriteConfig, ReadData, FastReadData, WriteData, BusToCpu, CpuToBus, GetResource, HookInterrupt, UnhookInterrupt, ListChain, GetCardUsed, SetCardUsed, SpecialCycle, GetRouting, SetInterrupt, ListWindow}
 use Rattle.reference.specs.Reference.{Reference, exponentOf, joined, imageBytes, targetOf, placeFor, writeOf, verdict, referenceStep, referenceStart}

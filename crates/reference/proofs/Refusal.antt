@@ -29,9 +29,9 @@ use Rattle.find_window.specs.declared.find.Finding.the-variants.{Found, BadHand
 use Rattle.find_window.specs.declared.find.Space.{Space}
 use Rattle.access.specs.declared.place.Place.{Place}
 use Rattle.access.specs.declared.place.Place.the-variants.{At, Refused as NoPlace}
-use Rattle.image.specs.Image.{imageSize}
+use Rattle.image_format.specs.Image.{imageSize}
 use Rattle.load.specs.Load.{load, reset}
-use Rattle.image.specs.Write.{write}
+use Rattle.image_writer.specs.Write.{write}
 use Rattle.reference.specs.declared.Call.{Call}
 use Rattle.reference.specs.declared.Call.the-variants.{Load, Reset, WriteImage, FindPciDevice, FindPciClasscode, ReadConfig, FastReadConfig, WriteConfig, ReadData, FastReadData, WriteData, BusToCpu, CpuToBus, GetResource, HookInterrupt, UnhookInterrupt, ListChain, GetCardUsed, SetCardUsed, SpecialCycle, GetRouting, SetInterrupt, ListWindow}
 use Rattle.reference.specs.Answers.{answer, ofStatus, ofSearch}

@@ -15,7 +15,7 @@ use Rattle.numbers.proofs.Tables.{table-same}
 use Rattle.interrupt.specs.Hooks.{lastLine, numbers, packed}
 use Rattle.card_used.specs.Used.{marksOf}
 use Rattle.cells.specs.Cells.{total, cellsBefore, offsetsOf}
-use Rattle.image.specs.Image.{imageSize, countOf, recordsOf, recordAt}
+use Rattle.image_format.specs.Image.{imageSize, countOf, recordsOf, recordAt}
 use Rattle.image.specs.Check.{factsOf, checked}
 use Rattle.load.specs.Load.{padded, registersOf, restarted, installed}
 use Rattle.cells.proofs.Ranges.{offset-at, before-same}

@@ -21,7 +21,7 @@ use Rattle.interrupt.specs.Chain.{isRouted}
 use Rattle.interrupt.specs.Meaning.{isAmong}
 use Rattle.card_used.specs.Used.{Mark}
 use Rattle.cells.specs.Cells.{total}
-use Rattle.image.specs.Image.{imageSize}
+use Rattle.image_format.specs.Image.{imageSize}
 use Rattle.reference.specs.declared.Answer.{Answer}
 use Rattle.reference.specs.declared.Call.{Call}
 use Rattle.reference.specs.declared.Call.the-variants.{Load, Reset, WriteImage, FindPciDevice, FindPciClasscode, ReadConfig, FastReadConfig, WriteConfig, ReadData, FastReadData, WriteData, BusToCpu, CpuToBus, GetResource, HookInterrupt, UnhookInterrupt, ListChain, GetCardUsed, SetCardUsed, SpecialCycle, GetRouting, SetInterrupt, ListWindow}

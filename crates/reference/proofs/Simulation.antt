@@ -14,9 +14,9 @@ use Rattle.window_list.specs.Kept.{keptList}
 use Rattle.window_list.proofs.KeptArray.{kept-of}
 use Rattle.window_listing.proofs.Answers.{number-is, values-are}
 use Rattle.cells.specs.Cells.{cellsBefore, total, offsetsOf}
-use Rattle.image.specs.Image.{imageSize, imageOf}
+use Rattle.image_format.specs.Image.{imageSize, imageOf}
 use Rattle.load.specs.Load.{padded, load, reset}
-use Rattle.image.specs.Write.{write}
+use Rattle.image_writer.specs.Write.{write}
 use Rattle.load.proofs.Lists.{zeroed-length}
 use Rattle.cells.proofs.Ranges.{offset-at}
 use Rattle.reference.specs.declared.Call.{Call}

@@ -8,7 +8,7 @@ use lib.Dec.{ltb, eqb}
 use lib.IntN.{pos}
 use lib.ListN.{length}
 use Rattle.board.specs.Layout.{functionsMax}
-use Rattle.image.specs.Image.{trailerSize, imageSize}
+use Rattle.image_format.specs.Image.{trailerSize, imageSize}
 use Rattle.image.specs.Refusals.{Facts, imageMax, cellsMax, accepted, refused, badRecord, firstRefusal}
 use Rattle.image.specs.Check.{factsOf, checked}
 use Rattle.image.specs.declared.check.Verdict.{Verdict}

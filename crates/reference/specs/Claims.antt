@@ -18,7 +18,7 @@ use Rattle.access.specs.declared.place.Place.the-variants.{At, Refused}
 use Rattle.descriptor.specs.Descriptor.{size}
 use Rattle.resource.specs.Resource.{windowBases}
 use Rattle.cells.specs.Cells.{slotCells, cellsBefore, total}
-use Rattle.image.specs.Image.{imageSize}
+use Rattle.image_format.specs.Image.{imageSize}
 use Rattle.reference.specs.declared.Answer.{Answer}
 use Rattle.reference.specs.declared.Call.{Call}
 use Rattle.reference.specs.declared.Call.the-variants.{Load, Reset, WriteImage, FindPciDevice, FindPciClasscode, ReadConfig, FastReadConfig, WriteConfig, ReadData, FastReadData, WriteData, BusToCpu, CpuToBus, GetResource, HookInterrupt, UnhookInterrupt, ListChain, GetCardUsed, SetCardUsed, SpecialCycle, GetRouting, SetInterrupt, ListWindow}

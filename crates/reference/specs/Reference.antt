@@ -32,7 +32,7 @@ use Rattle.interrupt.specs.Meaning.{isAmong, without}
 use Rattle.chain_listing.specs.Listing.{chainNumber, chainValues}
 use Rattle.card_used.specs.Used.{Mark, newMark, usedOf, setChecks}
 use Rattle.cells.specs.Cells.{cellsBefore, total, zeroed}
-use Rattle.image.specs.Image.{imageSize, countOf, recordsOf, sum, trailer}
+use Rattle.image_format.specs.Image.{imageSize, countOf, recordsOf, sum, trailer}
 use Rattle.image.specs.Refusals.{Facts, imageMax, refused, firstRefusal}
 use Rattle.image.specs.Check.{facts}
 use Rattle.image.specs.declared.check.Verdict.{Verdict}

@@ -21,7 +21,7 @@ use Rattle.chain_listing.specs.Listing.{chainListing, chainNumberOf, chainValue
 use Rattle.card_used.specs.Used.{getCardUsed, setCardUsed}
 use Rattle.interrupt.specs.Unsupported.{specialCycle, getRouting, setInterrupt}
 use Rattle.load.specs.Load.{load, reset}
-use Rattle.image.specs.Write.{write}
+use Rattle.image_writer.specs.Write.{write}
 use Rattle.reference.specs.declared.Answer.{Answer}
 use Rattle.reference.specs.declared.Call.{Call}
 use Rattle.reference.specs.declared.Call.the-variants.{Load, Reset, WriteImage, FindPciDevice, FindPciClasscode, ReadConfig, FastReadConfig, WriteConfig, ReadData, FastReadData, WriteData, BusToCpu, CpuToBus, GetResource, HookInterrupt, UnhookInterrupt, ListChain, GetCardUsed, SetCardUsed, SpecialCycle, GetRouting, SetInterrupt, ListWindow}

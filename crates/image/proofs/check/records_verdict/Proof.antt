@@ -2,6 +2,7 @@
 use mathlib.Core.Path.{_∙_}
 use native.Mathlib.Omega.{arith}
 use borrow.Author.Tests.{eq-eqb, ne-eqb, lt-ltb, le-ltb}
+use Rattle.image_format.proofs.Lists.{sum-whole}
 use borrow.Author.Needs.{needs}
 use Rattle.image.proofs.check.records_verdict.Statement.{statement}
 use Rattle.image.proofs.check.records_verdict.Tie as tie
@@ -14,9 +15,11 @@ plain-requires c κs = search needs
 
 returns : tie.Need-returns
 returns c =
-    let s = c .before .before .sum-of .result in
-    let said = c .before .before .before .before .args .said in
-    c .plain .ensures ∙ simp (← c .before .before .sum-of .ensures, ne-eqb s said (λ z. omega (arith, c .before .if1 .taken)))
+    let d = c .before .before in
+    let s = d .sum-of .result in
+    let said = d .before .before .args .said in
+    let e = d .sum-of .ensures ∙ sum-whole (d .before .before .args .records .now) (omega (arith, d .before .before .pre .1)) in
+    c .plain .ensures ∙ simp (← e, ne-eqb s said (λ z. omega (arith, c .before .if1 .taken)))
 
 first-bad-requires : tie.Need-first-bad-requires
 first-bad-requires c κs = search needs
@@ -28,8 +31,9 @@ returns-2 : tie.Need-returns-2
 returns-2 c =
     let d = c .before .before .before in
     let a = d .before .before .args in
+    let e = d .sum-of .ensures ∙ sum-whole (a .records .now) (omega (arith, d .before .before .pre .1)) in
     simp (
-      ← d .sum-of .ensures,
+      ← e,
       eq-eqb (d .sum-of .result) (a .said) (omega arith),
       ← c .before .first-bad .ensures,
       lt-ltb (c .before .first-bad .result) (a .count) (omega arith),
@@ -46,9 +50,10 @@ returns-3 c =
     let b = c .before .before .before in
     let d = b .before .before in
     let a = d .before .before .args in
+    let e = d .sum-of .ensures ∙ sum-whole (a .records .now) (omega (arith, d .before .before .pre .1)) in
     c .cells-verdict .ensures
     ∙ simp (
-      ← d .sum-of .ensures,
+      ← e,
       eq-eqb (d .sum-of .result) (a .said) (omega arith),
       ← b .first-bad .ensures,
       le-ltb (b .first-bad .result) (a .count) (omega arith),

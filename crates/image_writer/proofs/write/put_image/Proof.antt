@@ -1,16 +1,16 @@
 -- `put_image`: the records copied to the front, then the trailer after them.
-use Prim.Native.Nat.{_*_, _-_}
+use Prim.Native.Nat.{_*_, _-_, _≤_}
 use lib.ListN.{length, take, drop}
 use lib.Seq.{length-take-le}
 use mathlib.Core.Path.{_≡_, sym, ap, _∙_}
-use Rattle.image.specs.Image.{trailerSize}
+use Rattle.image_format.specs.Image.{trailerSize}
 use Rattle.board.specs.Layout.{recordSize}
-use Rattle.image.proofs.Lists.{copied, image-put, trailer-length}
-use mathlib.Core.Path.{_≡_}
+use Rattle.image_writer.proofs.Lists.{copied, image-put, trailer-length}
+use Rattle.image_format.proofs.Lists.{sum-whole}
 use borrow.Author.Needs.{needs}
 use native.Mathlib.Omega.{arith}
-use Rattle.image.proofs.write.put_image.Statement.{statement}
-use Rattle.image.proofs.write.put_image.Tie as tie
+use Rattle.image_writer.proofs.write.put_image.Statement.{statement}
+use Rattle.image_writer.proofs.write.put_image.Tie as tie
 
 mul-n : tie.Need-mul-n
 mul-n c = search needs
@@ -25,7 +25,7 @@ slice-aggregate-sum-of : tie.Need-slice-aggregate-sum-of
 slice-aggregate-sum-of c = sym (length-take-le _ _ (omega (arith, c .before .before .before .before .before .before .before .before .pre .1 .0)))
 
 sum-of-requires : tie.Need-sum-of-requires
-sum-of-requires c κs = rw (length-take-le (recordSize * c .before .before .before .before .before .before .before .before .args .count) (c .before .before .before .before .before .before .before .before .args .records .now) (omega (arith, c .before .before .before .before .before .before .before .before .pre .1 .0))) (omega arith)
+sum-of-requires c κs = search needs
 
 trailer-requires : tie.Need-trailer-requires
 trailer-requires c κs = search needs
@@ -53,13 +53,14 @@ returns c =
     let d = c .before .before .before .before .before .before .before .before .before .before .before .before .before .before .before in
     let n = recordSize * d .args .count in
     let r = d .args .records .now in
+    let few : length (take n r) ≤ 8704 = rw (length-take-le n r (omega (arith, d .pre .1 .0))) (omega (arith, d .pre .0)) in
     let first = c .before .before .before .before .before .before .before .before .before .before .copy .last .1 .0 in
     let t = c .before .before .before .before .before .trailer .result in
     let a = copied (take n r) (d .args .out .now) _ (c .before .before .before .before .before .before .before .before .before .before .copy .ensures .1) in
     let b = copied t (take (length first - n) (drop n first)) _ (c .before .before .copy2 .ensures .1) in
     let size : length t ≡ trailerSize = ap length (c .before .before .before .before .before .trailer .ensures) ∙ trailer-length _ _ in
     image-put n r (d .args .out .now) first _ t (omega (arith, d .pre .1 .0)) size (d .pre .1 .1) a b
-    ∙ rw (c .before .before .before .before .before .trailer .ensures, c .before .before .before .before .before .before .sum-of .ensures)
+    ∙ rw (c .before .before .before .before .before .trailer .ensures, c .before .before .before .before .before .before .sum-of .ensures, sum-whole (take n r) few)
 
 pub put-image-spec : {M : Type 1} → statement M
 put-image-spec =

@@ -1,12 +1,12 @@
 -- Laws of lists: images put.
-use Prim.Native.Nat.{ℕ, zero, suc, _+_, _-_, _<_, _≤_}
+use Prim.Native.Nat.{ℕ, _+_, _-_, _≤_}
 use native.Mathlib.Omega.{arith}
 use mathlib.Core.Path.{_≡_, refl, sym, _∙_, ap}
-use mathlib.Core.List.{List, _∷_, _++_, append-nil, append-assoc}
-use lib.ListN.{length, getD, take, drop, length-append, length-drop, drop-of-length-le}
-use lib.Seq.{drop-cons, take-length, take-all, take-at, drop-at, length-take-le, drop-drop}
+use mathlib.Core.List.{List, _++_, append-nil, append-assoc}
+use lib.ListN.{length, take, drop, length-append, length-drop, drop-of-length-le}
+use lib.Seq.{take-length, take-all, take-at, drop-at, length-take-le, drop-drop}
 use Rattle.numbers.specs.Tables.{tableFrom}
-use Rattle.image.specs.Image.{trailerSize, trailer}
+use Rattle.image_format.specs.Image.{trailerSize, trailer}
 
 pub trailer-length : (count sum : ℕ) → length (trailer count sum) ≡ trailerSize
 unfolding tableFrom
@@ -33,10 +33,3 @@ image-put n records out first second trailer h size room e₀ s =
     rw (t, s, size, d, l, take-all (length out - n) (drop n out) o, z, q)
     (ap (λ (x : List ℕ). take n records ++ x) (append-nil (trailer ++ drop (n + trailerSize) out))
     ∙ sym (append-assoc (take n records) trailer (drop (n + trailerSize) out)))
-
--- the part from the place below i is one element more than the part from i
-pub drop-pred : (s : List ℕ) (i : ℕ) → 0 < i → i ≤ length s → drop (i - 1) s ≡ getD s (i - 1) 0 ∷ drop i s
-drop-pred s zero p h = absurd (omega arith)
-drop-pred s (suc j) p h =
-    let e : suc j - 1 ≡ j = omega arith in
-    rw e (drop-cons s j 0 h)

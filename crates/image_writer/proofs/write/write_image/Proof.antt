@@ -1,9 +1,9 @@
 -- `write_image`: the refusals in their order, else the image.
 use borrow.Author.Tests.{lt-ltb, le-ltb, eq-eqb, ne-eqb}
-use Rattle.image.specs.Write.{write}
+use Rattle.image_writer.specs.Write.{write}
 use borrow.Author.Needs.{needs}
-use Rattle.image.proofs.write.write_image.Statement.{statement}
-use Rattle.image.proofs.write.write_image.Tie as tie
+use Rattle.image_writer.proofs.write.write_image.Statement.{statement}
+use Rattle.image_writer.proofs.write.write_image.Tie as tie
 
 function-count-requires : tie.Need-function-count-requires
 function-count-requires c κs = search needs

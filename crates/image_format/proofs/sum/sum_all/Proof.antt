@@ -1,15 +1,15 @@
--- `sum_of`: the sum so far is that of the bytes from the place reached.
+-- `sum_all`: the sum so far is that of the bytes from the place reached.
 use Prim.Native.Nat.{_-_, _*_, _≤_, _<_}
 use mathlib.Core.Path.{_≡_}
 use native.Mathlib.Omega.{arith}
 use lib.Arith.{le-zero}
 use lib.ListN.{length, drop}
 use lib.Seq.{drop-length}
-use Rattle.image.specs.Image.{sum}
-use Rattle.image.proofs.Lists.{drop-pred}
+use Rattle.image_format.specs.Image.{sum}
+use Rattle.image_format.proofs.Lists.{drop-pred}
 use borrow.Author.Needs.{needs}
-use Rattle.image.proofs.check.sum_of.Statement.{statement}
-use Rattle.image.proofs.check.sum_of.Tie as tie
+use Rattle.image_format.proofs.sum.sum_all.Statement.{statement}
+use Rattle.image_format.proofs.sum.sum_all.Tie as tie
 
 abbrev Inv-loop : tie.InvT-loop
 Inv-loop s t₀ i₀ t i = (i ≤ length s) × (t ≡ sum (drop i s)) × (t ≤ 255 * (length s - i))
@@ -47,8 +47,8 @@ loop-again c =
 returns : tie.Need-returns Inv-loop μ-loop
 returns c = rw (le-zero (c .loop-test .left)) at (c .before .loop .inv .1)
 
-pub sum-of-spec : {M : Type 1} → statement M
-sum-of-spec =
+pub sum-all-spec : {M : Type 1} → statement M
+sum-all-spec =
     tie.close
     (tie.spec
     Inv-loop

@@ -1,18 +1,18 @@
 // The writer: the loaded board as an image without notes.
-use crate::check::TRAILER;
-use crate::check::sum_of;
 use board::handle::function_count;
 use board::layout::Header;
 use board::layout::RECORD;
 use board::layout::Records;
 use bytes::copy;
+use image_format::sum::TRAILER;
+use image_format::sum::sum_of;
 ghost use mathlib.Core.Path.{_≡_};
 ghost use Prim.Native.Nat.{_+_, _*_, _/_, _%_, _<_, _≤_};
 ghost use mathlib.Core.List.{_++_};
 ghost use lib.ListN.{length, drop};
 ghost use Rattle.board.specs.Layout.{functionsMax, recordSize};
-ghost use Rattle.image.specs.Image.{imageSize, trailer, imageOf};
-ghost use Rattle.image.specs.Write.{written, write};
+ghost use Rattle.image_format.specs.Image.{imageSize, trailer, imageOf};
+ghost use Rattle.image_writer.specs.Write.{written, write};
 
 // The byte of a number whose unit is worth so much.
 fn byte_of(v: u32, worth: u32) -> u8

@@ -1,8 +1,8 @@
 -- `trailer`: twelve bytes, each the definition's.
 use Rattle.numbers.specs.Tables.{tableFrom}
 use borrow.Author.Needs.{needs}
-use Rattle.image.proofs.write.trailer.Statement.{statement}
-use Rattle.image.proofs.write.trailer.Tie as tie
+use Rattle.image_writer.proofs.write.trailer.Statement.{statement}
+use Rattle.image_writer.proofs.write.trailer.Tie as tie
 
 cast-size : tie.Need-cast-size
 cast-size c = search needs

@@ -1,0 +1,2 @@
+// What a board image is: its parts by their distance from its end, and the sum of its records.
+pub mod sum;

@@ -1,0 +1,2 @@
+-- Laws of images put, which the crates above cite too.
+pub mod Lists

@@ -1,0 +1,2 @@
+// The writer of board images.
+pub mod write;
