@@ -16,8 +16,7 @@ use Rattle.reference.specs.State.{Next, next, step}
 use Rattle.encoding.specs.declared.decode.Decoded.{Decoded}
 use Rattle.encoding.specs.declared.decode.Decoded.the-variants.{Known, Malformed}
 use Rattle.encoding.specs.Format.{headerSize, decoded, answerBytes}
-use Rattle.script.specs.Script.{ran, fitting, front, ownBytes}
-use Rattle.script.specs.Steps.{turnOf}
+use Rattle.script.specs.Script.{ran, fitting, front, ownBytes, turnOf}
 
 -- no constructor is another
 differ : {c : Call} {own : ℕ} → Malformed ≡ Known c own → ⊥

@@ -11,8 +11,7 @@ use Rattle.reference.specs.declared.Call.{Call}
 use Rattle.encoding.specs.declared.decode.Decoded.{Decoded}
 use Rattle.encoding.specs.declared.decode.Decoded.the-variants.{Known, Malformed}
 use Rattle.encoding.specs.Format.{headerSize, answerBytes}
-use Rattle.script.specs.Script.{Ran, ran, front}
-use Rattle.script.specs.Steps.{turnOf}
+use Rattle.script.specs.Script.{Ran, ran, front, turnOf}
 use Rattle.script.proofs.Fronts.{whole, front-short, answer-length, turn-none, turn-is}
 use Rattle.script.proofs.Runs.{runFrom, resumed, resumed-twice, stepAt, from-none, from-known}
 

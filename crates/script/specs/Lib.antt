@@ -1,4 +1,3 @@
 -- Scripts, and what they mean.
 pub mod Script
-pub mod Steps
 pub mod Meaning

@@ -7,6 +7,7 @@ use lib.ListN.{length, take, drop}
 use Rattle.board.specs.Parts.{Parts}
 use Rattle.reference.specs.declared.Call.{Call}
 use Rattle.reference.specs.Reference.{referenceStart}
+use Rattle.reference.specs.State.{step}
 use Rattle.reference.specs.Run.{Asked, Heard, asked, referenceAnswers, referenceAfter, partsOf}
 use Rattle.encoding.specs.declared.decode.Decoded.{Decoded}
 use Rattle.encoding.specs.declared.decode.Decoded.the-variants.{Known, Malformed}
@@ -60,6 +61,15 @@ pub record Ran : Type 0 where
 
 abbrev pub ran : ℕ → List ℕ → Parts → Ran
 ran place script p = record { place = place; script = script; parts = p }
+
+-- the call at the front performed in place, with the bytes that it takes; 0 where it is malformed
+unfoldable pub turnOf : Parts → List ℕ → Ran
+turnOf p l =
+    onCall (front l)
+    (λ c own.
+    let n = step p c (ownBytes own l) in
+    ran (headerSize + own) (answerBytes (n .answer) own ++ (n .own ++ drop (headerSize + own) l)) (n .parts))
+    (ran 0 l p)
 
 -- THE CONTRACT OF RUN, in the reference machine's words
 unfoldable pub runOf : List ℕ → List ℕ → Ran

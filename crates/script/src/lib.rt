@@ -1,3 +1,3 @@
 // Scripts of calls, performed in place: docs/SCRIPT.md describes them.
 pub mod run;
-mod turn;
+pub mod turn;

@@ -1,4 +1,4 @@
-// One call of a script.
+// One call of a script: the step of a run, for a caller that has the calls one by one.
 use board::layout::CellOffsets;
 use board::layout::Header;
 use board::layout::Hooks;
@@ -14,8 +14,7 @@ use encoding::decode::decode;
 use encoding::encode::CALL_HEADER;
 ghost use mathlib.Core.Path.{_≡_};
 ghost use Rattle.board.specs.Parts.{parts};
-ghost use Rattle.script.specs.Script.{front, ran};
-ghost use Rattle.script.specs.Steps.{turnOf};
+ghost use Rattle.script.specs.Script.{front, ran, turnOf};
 
 // The call at the front of a script.
 fn front(script: &[u8]) -> Decoded
@@ -40,7 +39,7 @@ fn front(script: &[u8]) -> Decoded
 }
 
 // Performs the call at the front of a script, in place. Gives the bytes that it takes, and 0 where it is malformed.
-pub(crate) fn turn(
+pub fn turn(
     script: &mut [u8],
     header: &mut Header,
     records: &mut Records,

@@ -1,0 +1,54 @@
+-- `descriptors`: at most six turns.
+use Prim.Native.Nat.{_-_, _≤_}
+use borrow.Author.Needs.{needs}
+use Rattle.replay.proofs.descriptors.descriptors.Statement.{statement}
+use Rattle.replay.proofs.descriptors.descriptors.Tie as tie
+
+abbrev Inv-loop : tie.InvT-loop
+Inv-loop bytes from at₀ n₀ at n = n ≤ 6
+
+abbrev μ-loop : tie.MeasureT-loop
+μ-loop bytes from at₀ n₀ at n = 6 - n
+
+loop-holds : tie.Need-loop-holds Inv-loop μ-loop
+loop-holds c = search needs
+
+descriptor-step-requires : tie.Need-descriptor-step-requires Inv-loop μ-loop
+descriptor-step-requires c κs = search needs
+
+found-requires : tie.Need-found-requires Inv-loop μ-loop
+found-requires c κs = search needs
+
+returns : tie.Need-returns Inv-loop μ-loop
+returns c = search needs
+
+position-requires : tie.Need-position-requires Inv-loop μ-loop
+position-requires c κs = search needs
+
+add-n : tie.Need-add-n Inv-loop μ-loop
+add-n c = search needs
+
+loop-less : tie.Need-loop-less Inv-loop μ-loop
+loop-less c = search needs
+
+loop-again : tie.Need-loop-again Inv-loop μ-loop
+loop-again c = search needs
+
+returns-2 : tie.Need-returns-2 Inv-loop μ-loop
+returns-2 c = search needs
+
+pub descriptors-spec : {M : Type 1} → statement M
+descriptors-spec =
+    tie.close
+    (tie.spec
+    Inv-loop
+    μ-loop
+    loop-holds
+    descriptor-step-requires
+    found-requires
+    returns
+    position-requires
+    add-n
+    loop-less
+    loop-again
+    returns-2)

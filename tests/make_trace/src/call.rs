@@ -1,0 +1,146 @@
+//! A call as `replay` prints it, and its header as docs/SCRIPT.md has it.
+
+pub const HEADER_LENGTH: usize = 64;
+
+/// Where an argument stands in the header.
+#[derive(Clone, Copy)]
+enum Place {
+    /// A register number or a bus.
+    Register,
+    Handle,
+    A,
+    B,
+    /// The bytes of the own buffer.
+    Own,
+}
+use Place::*;
+
+/// Name, operation, space and arguments of each call. A name that ends in `_` goes on with its width.
+const CALLS: &[(&str, u8, u8, &[Place])] = &[
+    ("load", 1, 0, &[Own]),
+    ("reset", 2, 0, &[]),
+    ("write_image", 3, 0, &[Own]),
+    ("find_pci_device", 4, 0, &[A, B]),
+    ("find_pci_classcode", 5, 0, &[A, B]),
+    ("read_config_", 6, 0, &[Handle, Register]),
+    ("fast_read_config_", 7, 0, &[Handle, Register]),
+    ("write_config_", 8, 0, &[Handle, Register, A]),
+    ("read_mem_", 9, 0, &[Handle, A]),
+    ("read_io_", 9, 1, &[Handle, A]),
+    ("fast_read_mem_", 10, 0, &[Handle, A]),
+    ("fast_read_io_", 10, 1, &[Handle, A]),
+    ("write_mem_", 11, 0, &[Handle, A, B]),
+    ("write_io_", 11, 1, &[Handle, A, B]),
+    ("bus_to_cpu", 12, 0, &[Handle, A]),
+    ("cpu_to_bus", 13, 0, &[Handle, A]),
+    ("list_window", 14, 0, &[A]),
+    ("get_resource", 15, 0, &[Handle, Own]),
+    ("hook_interrupt", 16, 0, &[Handle, A, B]),
+    ("unhook_interrupt", 17, 0, &[Handle]),
+    ("list_chain", 18, 0, &[A, B]),
+    ("get_card_used", 19, 0, &[Handle]),
+    ("set_card_used", 20, 0, &[Handle, A, B]),
+    ("special_cycle", 21, 0, &[Register, A]),
+    ("get_routing", 22, 0, &[Handle]),
+    ("set_interrupt", 23, 0, &[Handle, A]),
+];
+
+pub struct Call {
+    pub header: [u8; HEADER_LENGTH],
+    pub own: usize,
+    pub is_load: bool,
+}
+
+/// The call of a line `name(argument, ..)`.
+pub fn parsed(line: &str) -> Result<Call, String> {
+    let (name, rest) = line.split_once('(').ok_or(format!("`{line}` is no call"))?;
+    let arguments = rest.strip_suffix(')').ok_or(format!("`{line}` has no `)` at its end"))?;
+    let found = CALLS.iter().find_map(|call| Some((call, width_of(name, call.0)?)));
+    let (&(_, operation, space, places), width) = found.ok_or(format!("no call `{name}`"))?;
+    let mut call = Call { header: [0; HEADER_LENGTH], own: 0, is_load: operation == 1 };
+    call.header[..3].copy_from_slice(&[operation, width, space]);
+    let words: Vec<&str> = arguments.split(", ").filter(|word| !word.is_empty()).collect();
+    if words.len() != places.len() {
+        return Err(format!("`{name}` has {} arguments", places.len()));
+    }
+    for (word, place) in words.iter().zip(places) {
+        call.set(*place, word)?;
+    }
+    Ok(call)
+}
+
+/// The width that a name says, 0 for none, if it is the name of this call.
+fn width_of(name: &str, call: &str) -> Option<u8> {
+    match name.strip_prefix(call)? {
+        "" if !call.ends_with('_') => Some(0),
+        "byte" if call.ends_with('_') => Some(1),
+        "word" if call.ends_with('_') => Some(2),
+        "longword" if call.ends_with('_') => Some(4),
+        _ => None,
+    }
+}
+
+impl Call {
+    fn set(&mut self, place: Place, word: &str) -> Result<(), String> {
+        match place {
+            Register => self.header[3] = number(word, 0xFF)? as u8,
+            Handle => self.put(4, number(word, u32::MAX)?),
+            A => self.put(8, number(word, u32::MAX)?),
+            B => self.put(12, number(word, u32::MAX)?),
+            Own => {
+                let bytes =
+                    word.strip_suffix(" bytes").ok_or(format!("`{word}`: how many bytes?"))?;
+                let own = number(bytes, u32::MAX)?;
+                self.own = own as usize;
+                self.put(60, own);
+            }
+        }
+        Ok(())
+    }
+
+    fn put(&mut self, at: usize, number: u32) {
+        self.header[at..at + 4].copy_from_slice(&number.to_be_bytes());
+    }
+}
+
+/// A number up to the given one: hexadecimal after `0x`, else decimal.
+pub fn number(word: &str, most: u32) -> Result<u32, String> {
+    let number = match word.strip_prefix("0x") {
+        Some(digits) => u32::from_str_radix(digits, 16),
+        None => word.parse(),
+    };
+    let fits = number.ok().filter(|&number| number <= most);
+    fits.ok_or(format!("`{word}` is no number up to {most:#x}"))
+}
+
+#[cfg(test)]
+mod tests {
+    use super::parsed;
+
+    #[test]
+    fn headers() {
+        let header = |line| parsed(line).map(|call| call.header).unwrap_or([0; 64]);
+        let write = header("write_io_word(258, 0x80000004, 0x0001)");
+        assert_eq!(write[..16], [11, 2, 1, 0, 0, 0, 1, 2, 0x80, 0, 0, 4, 0, 0, 0, 1]);
+        assert_eq!(write[16..], [0; 48]);
+        let descriptors = header("get_resource(2, 40 bytes)");
+        assert_eq!(descriptors[..8], [15, 0, 0, 0, 0, 0, 0, 2]);
+        assert_eq!(descriptors[56..], [0, 0, 0, 0, 0, 0, 0, 40]);
+        assert_eq!(
+            header("special_cycle(0xff, 7)")[..12],
+            [21, 0, 0, 0xFF, 0, 0, 0, 0, 0, 0, 0, 7]
+        );
+        assert_eq!(header("reset()")[..4], [2, 0, 0, 0]);
+    }
+
+    #[test]
+    fn faults() {
+        let fault = |line| parsed(line).map(|_| ()).unwrap_err();
+        assert_eq!(fault("reset"), "`reset` is no call");
+        assert_eq!(fault("reset("), "`reset(` has no `)` at its end");
+        assert_eq!(fault("reset(1)"), "`reset` has 0 arguments");
+        assert_eq!(fault("read_config(1, 0x10)"), "no call `read_config`");
+        assert_eq!(fault("read_config_byte(1, 0x100)"), "`0x100` is no number up to 0xff");
+        assert_eq!(fault("load(12)"), "`12`: how many bytes?");
+    }
+}
