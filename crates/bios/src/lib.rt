@@ -3,5 +3,6 @@ pub mod config_exports;
 pub mod data_exports;
 pub mod exports;
 pub mod interrupt_exports;
+pub mod layout_exports;
 pub mod resource_exports;
 pub mod script_exports;

@@ -1,0 +1,20 @@
+-- The bytes of the lent parts, as C counts them.
+use Prim.Native.Nat.{ℕ, _+_, _*_}
+use mathlib.Core.List.{List, [], _∷_}
+use lib.ListN.{getD}
+use Rattle.board.specs.Layout.{functionsMax, windowsMax, recordSize, registersEach, hookSize, markSize}
+
+-- header, records, registers, windows, cell offsets, hooks, used marks: numbers of 4 or 8 bytes, and bytes
+abbrev pub parts : List ℕ
+parts =
+    4 * 4
+    ∷ functionsMax * recordSize
+    ∷ functionsMax * registersEach
+    ∷ 8 * windowsMax
+    ∷ 4 * (windowsMax + 1)
+    ∷ 4 * (functionsMax * hookSize)
+    ∷ 4 * (functionsMax * markSize)
+    ∷ []
+
+abbrev pub partBytes : ℕ → ℕ
+partBytes part = getD parts part 0
