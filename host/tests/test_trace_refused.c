@@ -1,0 +1,199 @@
+/* Traces that are refused or stay incomplete, and the trace of the incident. */
+#include <errno.h>
+#include <string.h>
+#include "check.h"
+#include "pci_trace.h"
+#include "rerun.h"
+
+static struct pci_trace trace, other;
+static struct rerun rerun;
+static uint8_t more_cells[2064];
+static uint32_t value, place;
+
+static void clear(void) {
+    memset(&board, 0, sizeof board);
+    memset(cells, 0, sizeof cells);
+}
+
+static FILE *full_stream(int mode) {
+    FILE *stream = fopen("/dev/full", "w");
+    GIVES(1, stream != NULL && setvbuf(stream, NULL, mode, 1024) == 0);
+    return stream;
+}
+
+/* The run of all tests here: three calls, each as it is without a trace. */
+static void make_calls(void) {
+    GIVES(0, pci_load(&board, cells, 2064, image, sizeof image, &place));
+    GIVES(0, pci_write_data(&board, cells, 2064, 0, 4, 2, 0x80000400, 0x11223344));
+    GIVES(0, pci_read_data(&board, cells, 2064, 0, 2, 2, 0x80000400, &value));
+    GIVES(0x3344, value);
+}
+
+/* The calls that a stream has, all of them whole. */
+static size_t calls_in(FILE *stream) {
+    GIVES(1, rerun_read(&rerun, stream));
+    rerun_perform(&rerun);
+    GIVES((int64_t)rerun.length, rerun.stop);
+    return rerun_count(&rerun, 0, 0) + rerun_count(&rerun, 0, 1);
+}
+
+/* A number in any part of the board; what may stand behind the last part is none. */
+static void test_used_boards(void) {
+    FILE *stream = tmpfile();
+    clear();
+    void *const parts[] = {board.header,       board.records, board.registers, board.windows,
+                           board.cell_offsets, board.hooks,   board.used,      (uint8_t *)(&board.used + 1) - 1};
+    for (size_t i = 0; i < sizeof parts / sizeof parts[0]; i++) {
+        *(uint8_t *)parts[i] = 1;
+        GIVES(-1, pci_trace_start(&trace, &board, cells, 2064, stream, NULL));
+        *(uint8_t *)parts[i] = 0;
+    }
+    memset(&board, 0xFF, sizeof board);
+    memset(&board, 0, offsetof(struct pci_board, used) + sizeof board.used);
+    GIVES(0, pci_trace_start(&trace, &board, cells, 2064, stream, NULL));
+    GIVES(0, pci_trace_end(&trace));
+    make_calls();
+    GIVES(0, calls_in(stream));
+    fclose(stream);
+}
+
+static void test_twice(void) {
+    static struct pci_board another;
+    FILE *stream = tmpfile(), *unused = tmpfile();
+    clear();
+    GIVES(-1, pci_trace_end(&trace));
+    GIVES(0, pci_trace_start(&trace, &board, cells, 2064, stream, NULL));
+    GIVES(-1, pci_trace_start(&trace, &another, cells, 2064, unused, NULL));
+    GIVES(-1, pci_trace_start(&other, &board, cells, 2064, unused, NULL));
+    GIVES(-1, pci_trace_end(&other));
+    make_calls();
+    GIVES(0, pci_trace_end(&trace));
+    GIVES(-1, pci_trace_end(&trace));
+    GIVES(3, calls_in(stream));
+    GIVES(0, ftell(unused));
+    fclose(stream);
+    fclose(unused);
+}
+
+static FILE *record_calls(void) {
+    FILE *stream = tmpfile();
+    clear();
+    GIVES(0, pci_trace_start(&trace, &board, cells, 2064, stream, NULL));
+    make_calls();
+    return stream;
+}
+
+/* After other cells were lent the trace has the calls before that and no more, not even those that lend its own. */
+static void check_stopped(FILE *stream) {
+    GIVES(0, pci_write_data(&board, cells, 2064, 0, 4, 2, 0x80000400, 0x55667788));
+    GIVES(-1, pci_trace_end(&trace));
+    GIVES(3, calls_in(stream));
+    fclose(stream);
+}
+
+/* By address or by length; the call gives what it gives without a trace. */
+static void test_other_cells(void) {
+    int fault;
+    FILE *stream = record_calls();
+    GIVES(0, pci_load(&board, more_cells, 2064, image, sizeof image, &place));
+    check_stopped(stream);
+    stream = record_calls();
+    GIVES(1, pci_load(&board, cells, 2065, image, 5, &place));
+    check_stopped(stream);
+    stream = record_calls();
+    GIVES(-7, pci_reset(&board, NULL, 0));
+    check_stopped(stream);
+    stream = record_calls();
+    GIVES(0, pci_read_data(&board, more_cells, 2064, 0, 4, 2, 0x80000400, &value));
+    GIVES(0, value);
+    check_stopped(stream);
+    stream = record_calls();
+    GIVES(0xFFFFFFFF, pci_fast_read_data(&board, cells, 2063, 0, 4, 2, 0x80000400, &fault));
+    check_stopped(stream);
+    stream = record_calls();
+    GIVES(0, pci_write_data(&board, cells, sizeof cells, 0, 4, 2, 0x80000400, 1));
+    check_stopped(stream);
+}
+
+/* Calls without a board or of no width are no calls of a run, whatever cells they are lent. */
+static void test_not_recorded(void) {
+    struct pci_descriptor descriptor;
+    size_t following;
+    FILE *stream = record_calls();
+    GIVES(0, pci_check_image(image, sizeof image, &place));
+    GIVES(0, pci_descriptor_step(NULL, 0, 0, &descriptor, &following));
+    GIVES(-8, pci_write_data(&board, more_cells, 9, 0, 3, 2, 0x80000400, 1));
+    GIVES(0, pci_trace_end(&trace));
+    GIVES(3, calls_in(stream));
+    fclose(stream);
+}
+
+/* A stream that fails at the start, in a call, and at the end; errno is the caller's. */
+static void test_streams(void) {
+    FILE *none = full_stream(_IONBF), *later = full_stream(_IOFBF), *stream = tmpfile();
+    FILE *unwritable = fopen("/dev/null", "r");
+    clear();
+    GIVES(-1, pci_trace_start(&trace, &board, cells, 2064, none, NULL));
+    GIVES(-1, pci_trace_start(&trace, &board, cells, 0, unwritable, NULL));
+    GIVES(-1, pci_trace_end(&trace));
+    GIVES(0, pci_trace_start(&trace, &board, cells, 0, later, NULL));
+    errno = EDOM;
+    GIVES(1, pci_load(&board, NULL, 0, image, 5, &place));
+    GIVES(8, pci_load(&board, NULL, 0, image, sizeof image, &place));
+    GIVES(-9, pci_read_config(&board, 4, 1, 0, &value));
+    GIVES(EDOM, errno);
+    GIVES(-1, pci_trace_end(&trace));
+    GIVES(0, pci_trace_start(&trace, &board, cells, 2064, stream, none));
+    errno = EDOM;
+    make_calls();
+    GIVES(EDOM, errno);
+    GIVES(-1, pci_trace_end(&trace));
+    GIVES(1, calls_in(stream));
+    fclose(none);
+    fclose(later);
+    fclose(stream);
+    fclose(unwritable);
+}
+
+/* A trace whose last bytes are still in the stream's buffer when it ends. */
+static void test_flush(void) {
+    FILE *stream = full_stream(_IOFBF), *calls = tmpfile();
+    clear();
+    GIVES(0, pci_trace_start(&trace, &board, cells, 0, stream, NULL));
+    GIVES(-1, pci_trace_end(&trace));
+    GIVES(0, pci_trace_start(&trace, &board, cells, 0, calls, stream));
+    GIVES(-9, pci_read_config(&board, 4, 1, 0, &value));
+    GIVES(-1, pci_trace_end(&trace));
+    fclose(stream);
+    fclose(calls);
+}
+
+void test_trace_refused(void) {
+    test_used_boards();
+    test_twice();
+    test_other_cells();
+    test_not_recorded();
+    test_streams();
+    test_flush();
+}
+
+/* The stray sample's fast read and write are refused, and the listings of the line past its two hooks, one for each
+   interrupt and one for the list of handlers; the bins are in the cells as the example printed them. */
+void test_incident(const char *path) {
+    static const uint8_t sample[4] = {0, 0, 0, 1}, samples[4] = {0, 0, 0, 2};
+    FILE *stream = fopen(path, "rb");
+    GIVES(1, stream != NULL);
+    if (stream == NULL)
+        return;
+    calls_in(stream);
+    GIVES(2064, rerun.cells_length);
+    GIVES(1, rerun_count(&rerun, 10, 1));
+    GIVES(1, rerun_count(&rerun, 11, 1));
+    GIVES(6, rerun_count(&rerun, 18, 1));
+    GIVES(8, rerun_count(&rerun, 0, 1));
+    GIVES(4 * 256, rerun_count(&rerun, 9, 0));
+    GIVES(0, memcmp(rerun.cells + 4 * 17, sample, 4));
+    GIVES(0, memcmp(rerun.cells + 4 * 255, sample, 4));
+    GIVES(0, memcmp(rerun.cells + 1024, samples, 4));
+    fclose(stream);
+}
