@@ -21,11 +21,11 @@ struct pci_trace {
 };
 
 /* Starts to record: 0, or -1 where the trace is started already, the board is traced already or is not all zero, or the
-   stream takes nothing. From then on every call on the board, by pci_bios.h or pci_driver.h, is written to `calls`, and
-   where `answers` is not NULL its answer there, as bios_run_script leaves it in the script. Calls that have no board
-   (special cycle, get routing, set interrupt) are written to all traces. No call gives another answer for it, nor
-   another errno. Each call on the board must lend these very cells: the first that does not is not recorded, nor is any
-   call after it; the same goes for a stream that takes no more. */
+   stream takes nothing. From then on every call on the board, by pci_bios.h or pci_driver.h, is written to `calls`
+   before it is made, and where `answers` is not NULL its answer there, as bios_run_script leaves it in the script. Calls
+   that have no board (special cycle, get routing, set interrupt) are written to all traces. No call gives another answer
+   for it, nor another errno. Each call that takes cells must lend these very ones: the first that does not is not
+   recorded, nor is any call after it; the same goes for a stream that takes no more. */
 int pci_trace_start(struct pci_trace *trace, const struct pci_board *board, const uint8_t *cells, size_t cells_length,
                     FILE *calls, FILE *answers);
 
@@ -35,6 +35,6 @@ int pci_trace_end(struct pci_trace *trace);
 
 /* Threads: start and end a trace while no other thread is in a call, on any board. A board that is traced is for one
    thread at a time, even for calls that only read it; a call that has no board writes to every trace. Boards that are
-   not traced are as free as they are without traces. */
+   not traced are as free as they are without traces. With no trace started a call costs two tests of a pointer. */
 
 #endif

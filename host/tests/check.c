@@ -1,5 +1,5 @@
-/* The tests of the calls for C on board B1, whose image is on standard input; the argument is the file with the trace of
-   the incident. The last line has the counts. */
+/* The tests of the calls for C on board B1, whose image is on standard input; the argument is the file with the trace
+   of the incident. The last line has the counts. */
 #include <inttypes.h>
 #include <stdio.h>
 #include <string.h>

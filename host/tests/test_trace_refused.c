@@ -2,12 +2,14 @@
 #include <errno.h>
 #include <string.h>
 #include "check.h"
+#include "pci_record.h"
 #include "pci_trace.h"
 #include "rerun.h"
 
 static struct pci_trace trace, other;
 static struct rerun rerun;
-static uint8_t more_cells[2064];
+static FILE *calls, *answers;
+static uint8_t more_cells[2064], answered[4096];
 static uint32_t value, place;
 
 static void clear(void) {
@@ -17,7 +19,7 @@ static void clear(void) {
 
 static FILE *full_stream(int mode) {
     FILE *stream = fopen("/dev/full", "w");
-    GIVES(1, stream != NULL && setvbuf(stream, NULL, mode, 1024) == 0);
+    GIVES(1, stream != NULL && setvbuf(stream, NULL, mode, BUFSIZ) == 0);
     return stream;
 }
 
@@ -67,7 +69,9 @@ static void test_twice(void) {
     GIVES(-1, pci_trace_start(&other, &board, cells, 2064, unused, NULL));
     GIVES(-1, pci_trace_end(&other));
     make_calls();
+    GIVES(0, pci_recorder == NULL);
     GIVES(0, pci_trace_end(&trace));
+    GIVES(1, pci_recorder == NULL);
     GIVES(-1, pci_trace_end(&trace));
     GIVES(3, calls_in(stream));
     GIVES(0, ftell(unused));
@@ -75,73 +79,87 @@ static void test_twice(void) {
     fclose(unused);
 }
 
-static FILE *record_calls(void) {
-    FILE *stream = tmpfile();
+static void record_calls(void) {
+    calls = tmpfile();
+    answers = tmpfile();
     clear();
-    GIVES(0, pci_trace_start(&trace, &board, cells, 2064, stream, NULL));
+    GIVES(0, pci_trace_start(&trace, &board, cells, 2064, calls, answers));
     make_calls();
-    return stream;
 }
 
-/* After other cells were lent the trace has the calls before that and no more, not even those that lend its own. */
-static void check_stopped(FILE *stream) {
+/* The streams have the three calls and no more. */
+static void check_recorded(void) {
+    GIVES(3, calls_in(calls));
+    GIVES((int64_t)rerun.length, read_all(answers, answered, sizeof answered));
+    GIVES(0, memcmp(rerun.answers, answered, rerun.length));
+    fclose(calls);
+    fclose(answers);
+}
+
+/* After other cells were lent nothing is recorded, not even a call that lends the trace's own. */
+static void check_stopped(void) {
     GIVES(0, pci_write_data(&board, cells, 2064, 0, 4, 2, 0x80000400, 0x55667788));
     GIVES(-1, pci_trace_end(&trace));
-    GIVES(3, calls_in(stream));
-    fclose(stream);
+    check_recorded();
 }
 
 /* By address or by length; the call gives what it gives without a trace. */
 static void test_other_cells(void) {
     int fault;
-    FILE *stream = record_calls();
+    record_calls();
     GIVES(0, pci_load(&board, more_cells, 2064, image, sizeof image, &place));
-    check_stopped(stream);
-    stream = record_calls();
+    check_stopped();
+    record_calls();
     GIVES(1, pci_load(&board, cells, 2065, image, 5, &place));
-    check_stopped(stream);
-    stream = record_calls();
+    check_stopped();
+    record_calls();
     GIVES(-7, pci_reset(&board, NULL, 0));
-    check_stopped(stream);
-    stream = record_calls();
+    check_stopped();
+    record_calls();
     GIVES(0, pci_read_data(&board, more_cells, 2064, 0, 4, 2, 0x80000400, &value));
     GIVES(0, value);
-    check_stopped(stream);
-    stream = record_calls();
+    check_stopped();
+    record_calls();
     GIVES(0xFFFFFFFF, pci_fast_read_data(&board, cells, 2063, 0, 4, 2, 0x80000400, &fault));
-    check_stopped(stream);
-    stream = record_calls();
+    check_stopped();
+    record_calls();
     GIVES(0, pci_write_data(&board, cells, sizeof cells, 0, 4, 2, 0x80000400, 1));
-    check_stopped(stream);
+    check_stopped();
 }
 
 /* Calls without a board or of no width are no calls of a run, whatever cells they are lent. */
 static void test_not_recorded(void) {
     struct pci_descriptor descriptor;
     size_t following;
-    FILE *stream = record_calls();
+    record_calls();
     GIVES(0, pci_check_image(image, sizeof image, &place));
     GIVES(0, pci_descriptor_step(NULL, 0, 0, &descriptor, &following));
     GIVES(-8, pci_write_data(&board, more_cells, 9, 0, 3, 2, 0x80000400, 1));
     GIVES(0, pci_trace_end(&trace));
-    GIVES(3, calls_in(stream));
-    fclose(stream);
+    check_recorded();
 }
 
-/* A stream that fails at the start, in a call, and at the end; errno is the caller's. */
-static void test_streams(void) {
-    FILE *none = full_stream(_IONBF), *later = full_stream(_IOFBF), *stream = tmpfile();
-    FILE *unwritable = fopen("/dev/null", "r");
+static void test_failing_start(void) {
+    FILE *full = full_stream(_IONBF), *unwritable = fopen("/dev/null", "r");
     clear();
-    GIVES(-1, pci_trace_start(&trace, &board, cells, 2064, none, NULL));
+    GIVES(-1, pci_trace_start(&trace, &board, cells, 2064, full, NULL));
     GIVES(-1, pci_trace_start(&trace, &board, cells, 0, unwritable, NULL));
     GIVES(-1, pci_trace_end(&trace));
-    GIVES(0, pci_trace_start(&trace, &board, cells, 0, later, NULL));
+    GIVES(1, pci_recorder == NULL);
+    fclose(full);
+    fclose(unwritable);
+}
+
+/* A stream that fails in a call: its answer and errno are as they are without a trace. The image of 16 functions is
+   longer than the stream's buffer. */
+static void test_failing_call(void) {
+    FILE *full = full_stream(_IOFBF), *none = full_stream(_IONBF), *stream = tmpfile();
+    clear();
+    GIVES(0, pci_trace_start(&trace, &board, cells, 0, full, NULL));
     errno = EDOM;
-    GIVES(1, pci_load(&board, NULL, 0, image, 5, &place));
-    GIVES(8, pci_load(&board, NULL, 0, image, sizeof image, &place));
-    GIVES(-9, pci_read_config(&board, 4, 1, 0, &value));
+    GIVES(8, pci_load(&board, NULL, 0, sixteen, sizeof sixteen, &place));
     GIVES(EDOM, errno);
+    GIVES(-9, pci_read_config(&board, 4, 1, 0, &value));
     GIVES(-1, pci_trace_end(&trace));
     GIVES(0, pci_trace_start(&trace, &board, cells, 2064, stream, none));
     errno = EDOM;
@@ -149,23 +167,22 @@ static void test_streams(void) {
     GIVES(EDOM, errno);
     GIVES(-1, pci_trace_end(&trace));
     GIVES(1, calls_in(stream));
+    fclose(full);
     fclose(none);
-    fclose(later);
     fclose(stream);
-    fclose(unwritable);
 }
 
-/* A trace whose last bytes are still in the stream's buffer when it ends. */
-static void test_flush(void) {
-    FILE *stream = full_stream(_IOFBF), *calls = tmpfile();
+/* A stream that fails when its buffer is flushed at the end. */
+static void test_failing_end(void) {
+    FILE *full = full_stream(_IOFBF), *stream = tmpfile();
     clear();
-    GIVES(0, pci_trace_start(&trace, &board, cells, 0, stream, NULL));
+    GIVES(0, pci_trace_start(&trace, &board, cells, 0, full, NULL));
     GIVES(-1, pci_trace_end(&trace));
-    GIVES(0, pci_trace_start(&trace, &board, cells, 0, calls, stream));
+    GIVES(0, pci_trace_start(&trace, &board, cells, 0, stream, full));
     GIVES(-9, pci_read_config(&board, 4, 1, 0, &value));
     GIVES(-1, pci_trace_end(&trace));
+    fclose(full);
     fclose(stream);
-    fclose(calls);
 }
 
 void test_trace_refused(void) {
@@ -173,8 +190,9 @@ void test_trace_refused(void) {
     test_twice();
     test_other_cells();
     test_not_recorded();
-    test_streams();
-    test_flush();
+    test_failing_start();
+    test_failing_call();
+    test_failing_end();
 }
 
 /* The stray sample's fast read and write are refused, and the listings of the line past its two hooks, one for each
