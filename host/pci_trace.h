@@ -22,10 +22,10 @@ struct pci_trace {
 
 /* Starts to record: 0, or -1 where the trace is started already, the board is traced already or is not all zero, or the
    stream takes nothing. From then on every call on the board, by pci_bios.h or pci_driver.h, is written to `calls`
-   before it is made, and where `answers` is not NULL its answer there, as bios_run_script leaves it in the script. Calls
-   that have no board (special cycle, get routing, set interrupt) are written to all traces. No call gives another answer
-   for it, nor another errno. Each call that takes cells must lend these very ones: the first that does not is not
-   recorded, nor is any call after it; the same goes for a stream that takes no more. */
+   before it is made, and where `answers` is not NULL its answer there, as bios_run_script leaves it in the script.
+   Calls that have no board (special cycle, get routing, set interrupt) are written to all traces. No call gives another
+   answer for it, nor another errno. Each call that takes cells must lend these very ones: the first that does not is
+   not recorded, nor is any call after it; the same goes for a stream that takes no more. */
 int pci_trace_start(struct pci_trace *trace, const struct pci_board *board, const uint8_t *cells, size_t cells_length,
                     FILE *calls, FILE *answers);
 

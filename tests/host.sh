@@ -51,6 +51,16 @@ for kind in glue glue-checked; do
 done
 echo "host: the calls from C and their traces, $(tail -n 1 target/host/glue.out), plain and with sanitizers"
 
+# with_types LONG: a driver's source that has its own types, compiled.
+with_types() {
+    printf 'typedef %s LONG; typedef unsigned %s ULONG; typedef unsigned short UWORD; typedef unsigned char UBYTE;\n#define PCI_DRIVER_TYPES\n#include "%s"\n' \
+        "$1" "$1" host/examples/sizer.c > target/host/types.c
+    cc $flags -I. -c target/host/types.c -o target/host/types.o
+}
+with_types int || { echo "host: a driver's own types were refused"; exit 1; }
+! with_types "long long" 2> target/host/types.out || { echo "host: types of 64 bits were taken"; exit 1; }
+echo "host: a driver's own types of 32 bits are taken, of 64 bits are not"
+
 # The test's test_part_bytes stands in for the library's bios_part_bytes and has the part of that number longer than it is; with `none` the load must go on.
 build layout "-DNDEBUG -Dbios_part_bytes=test_part_bytes" host/tests/layout.c
 target/host/layout none || { echo "host: the layout of the board was refused"; exit 1; }
@@ -69,3 +79,6 @@ for call in $(seq $calls); do
     aborts overlap "$call"
 done
 echo "host: $calls calls that are lent overlapping memory, all caught"
+
+# What the pages say, tried.
+sh tests/page.sh docs/DRIVERS.md docs/TRACE.md
