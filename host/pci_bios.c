@@ -1,4 +1,5 @@
-/* The calls of pci_bios.h over the proved static library: numbers and pointers are passed on, no rule stands here. */
+/* The calls of pci_bios.h over the proved static library: numbers and pointers are passed on, and told to a recorder
+   where there is one; no rule stands here. */
 #include <assert.h>
 #include <inttypes.h>
 #include <stdio.h>
@@ -86,9 +87,10 @@ const struct pci_recorder *pci_recorder;
             pci_recorder->call(&(struct pci_call){.board = on, .operation = what, __VA_ARGS__}); \
     } while (0)
 
+/* The field of a call that takes cells. */
 #define CELLS(start, length) .cells = &(struct pci_lent){start, length}
 
-/* And of its answer: the number, whether it was refused, up to six values. */
+/* Tells the recorder of the answer: the number, whether the call was refused, up to six values. */
 #define ANSWER(on, number, refused, ...)                                                    \
     do {                                                                                    \
         if (pci_recorder != NULL)                                                           \

@@ -1,6 +1,5 @@
 /* The recorder of pci_trace.h: arguments and answers are written down as docs/TRACE.md has them. */
 #include <errno.h>
-#include <string.h>
 #include "pci_record.h"
 #include "pci_trace.h"
 
@@ -53,7 +52,7 @@ static int put_answer(FILE *stream, const struct pci_answer *answer, const void 
     return put(stream, header, sizeof header, own, own_length);
 }
 
-/* A script has no other widths; with them a call is no call of document 01. */
+/* A script can say no other width; with one a call is refused before all else and is no call of a run. */
 static int in_script(const struct pci_call *call) {
     int has_width = OP_READ_CONFIG <= call->operation && call->operation <= OP_WRITE_DATA;
     return !has_width || call->width == 1 || call->width == 2 || call->width == 4;

@@ -34,7 +34,8 @@ int pci_trace_start(struct pci_trace *trace, const struct pci_board *board, cons
 int pci_trace_end(struct pci_trace *trace);
 
 /* Threads: start and end a trace while no other thread is in a call, on any board. A board that is traced is for one
-   thread at a time, even for calls that only read it; a call that has no board writes to every trace. Boards that are
-   not traced are as free as they are without traces. With no trace started a call costs two tests of a pointer. */
+   thread at a time, even for calls that only read it; as a call that has no board writes to every trace, it is made
+   while no other thread is in a call on a traced board. Boards that are not traced are as free as they are without
+   traces. With no trace started a call costs two tests of a pointer. */
 
 #endif
