@@ -1,7 +1,13 @@
-/* The calls of pci_bios.h over the proved static library: numbers and pointers are passed on, no rule stands here. */
+/* The calls of pci_bios.h over the proved static library: numbers and pointers are passed on, and told to a recorder
+   where there is one; no rule stands here. */
 #include <assert.h>
+#include <inttypes.h>
+#include <stdio.h>
+#include <stdlib.h>
 #include "pci_bios.h"
+#include "pci_record.h"
 
+uint64_t bios_part_bytes(uint32_t part);
 uint32_t bios_check_image(const uint8_t *image, size_t length, size_t room, uint32_t *place);
 uint32_t bios_load(const uint8_t *image, size_t length, uint32_t *header, uint8_t *records, uint8_t *registers,
                    uint64_t *windows, uint32_t *cell_offsets, uint32_t *hooks, uint32_t *used, uint8_t *cells,
@@ -48,14 +54,8 @@ int32_t bios_set_interrupt(uint32_t handle, uint32_t mode);
 #ifdef NDEBUG
 #define LENT(...) ((void)0)
 #else
-/* What is lent to one call: its board, its buffers, the places of its results. */
-struct lent {
-    const void *start;
-    size_t length;
-};
-
-/* Whether each part has an address, unless it is empty, and no two share a byte. */
-static int lent_apart(const struct lent *parts, size_t count) {
+/* Whether each part that is lent to a call has an address, unless it is empty, and no two share a byte. */
+static int lent_apart(const struct pci_lent *parts, size_t count) {
     for (size_t i = 0; i < count; i++) {
         uintptr_t a = (uintptr_t)parts[i].start;
         if (parts[i].start == NULL && parts[i].length > 0)
@@ -69,13 +69,33 @@ static int lent_apart(const struct lent *parts, size_t count) {
     return 1;
 }
 
-/* The library may take it for granted, so a debug build looks. */
+/* What is lent to one call: its board, its buffers, the places of its results. The library may take it for granted that
+   they are apart, so a debug build looks. */
 #define LENT(...)                                                  \
     do {                                                           \
-        const struct lent parts[] = {__VA_ARGS__};                 \
+        const struct pci_lent parts[] = {__VA_ARGS__};             \
         assert(lent_apart(parts, sizeof parts / sizeof parts[0])); \
     } while (0)
 #endif
+
+const struct pci_recorder *pci_recorder;
+
+/* Tells the recorder, where there is one, of a call on a board: the operation, then the fields that it has. */
+#define CALL(on, what, ...)                                                                      \
+    do {                                                                                         \
+        if (pci_recorder != NULL)                                                                \
+            pci_recorder->call(&(struct pci_call){.board = on, .operation = what, __VA_ARGS__}); \
+    } while (0)
+
+/* The field of a call that takes cells. */
+#define CELLS(start, length) .cells = &(struct pci_lent){start, length}
+
+/* Tells the recorder of the answer: the number, whether the call was refused, up to six values. */
+#define ANSWER(on, number, refused, ...)                                                    \
+    do {                                                                                    \
+        if (pci_recorder != NULL)                                                           \
+            pci_recorder->answer(on, &(struct pci_answer){number, refused, {__VA_ARGS__}}); \
+    } while (0)
 
 /* An empty buffer may be NULL here; the library is given an address in every case. Nothing is read or written there. */
 static uint8_t *given(uint8_t *bytes, size_t length) {
@@ -93,29 +113,61 @@ int32_t pci_check_image(const uint8_t *image, size_t length, uint32_t *place) {
     return (int32_t)bios_check_image(given_const(image, length), length, SIZE_MAX, place);
 }
 
+/* The parts of struct pci_board as the library numbers them; past the last one it gives 0. */
+#define PART(name) {#name, sizeof((struct pci_board *)0)->name}
+static const struct {
+    const char *name;
+    size_t bytes;
+} board_parts[] = {PART(header),       PART(records), PART(registers), PART(windows),
+                   PART(cell_offsets), PART(hooks),   PART(used),      {"an eighth part", 0}};
+
+/* A library with another layout would write past the parts of this one, so it is not called. */
+static void check_layout(void) {
+    for (uint32_t part = 0; part < sizeof board_parts / sizeof board_parts[0]; part++) {
+        uint64_t bytes = bios_part_bytes(part);
+        if (bytes != board_parts[part].bytes) {
+            fprintf(stderr, "pci_load: %s of a board has %zu bytes in pci_bios.h and %" PRIu64 " in the library\n",
+                    board_parts[part].name, board_parts[part].bytes, bytes);
+            abort();
+        }
+    }
+}
+
 int32_t pci_load(struct pci_board *board, uint8_t *cells, size_t cells_length, const uint8_t *image, size_t length,
                  uint32_t *place) {
+    check_layout();
     LENT({board, sizeof *board}, {cells, cells_length}, {image, length}, {place, sizeof *place});
-    return (int32_t)bios_load(given_const(image, length), length, board->header, board->records, board->registers,
-                              board->windows, board->cell_offsets, board->hooks, board->used,
-                              given(cells, cells_length), cells_length, place);
+    CALL(board, OP_LOAD, .own = {image, length}, CELLS(cells, cells_length));
+    int32_t number = (int32_t)bios_load(given_const(image, length), length, board->header, board->records,
+                                        board->registers, board->windows, board->cell_offsets, board->hooks,
+                                        board->used, given(cells, cells_length), cells_length, place);
+    ANSWER(board, number, number != 0, *place);
+    return number;
 }
 
 int32_t pci_reset(struct pci_board *board, uint8_t *cells, size_t cells_length) {
     LENT({board, sizeof *board}, {cells, cells_length});
-    return bios_reset(board->header, board->records, board->registers, board->windows, board->cell_offsets,
-                      board->hooks, board->used, given(cells, cells_length), cells_length);
+    CALL(board, OP_RESET, CELLS(cells, cells_length));
+    int32_t number = bios_reset(board->header, board->records, board->registers, board->windows, board->cell_offsets,
+                                board->hooks, board->used, given(cells, cells_length), cells_length);
+    ANSWER(board, number, number != 0, 0);
+    return number;
 }
 
 int32_t pci_write_image(const struct pci_board *board, uint8_t *out, size_t length) {
     LENT({board, sizeof *board}, {out, length});
-    return (int32_t)bios_write_image(board->header, board->records, given(out, length), length);
+    CALL(board, OP_WRITE_IMAGE, .own = {out, length});
+    int32_t number = (int32_t)bios_write_image(board->header, board->records, given(out, length), length);
+    ANSWER(board, number, number != 0, 0);
+    return number;
 }
 
 int32_t pci_list_window(const struct pci_board *board, uint32_t n, struct pci_window *window) {
     LENT({board, sizeof *board}, {window, sizeof *window});
+    CALL(board, OP_LIST_WINDOW, .a = n);
     uint64_t values[6];
     int32_t number = bios_list_window(board->windows, n, values);
+    ANSWER(board, number, number != 0, values[0], values[1], values[2], values[3], values[4], values[5]);
     window->io = (int)values[0];
     window->start = (uint32_t)values[1];
     window->length = (uint32_t)values[2];
@@ -126,45 +178,66 @@ int32_t pci_list_window(const struct pci_board *board, uint32_t n, struct pci_wi
 }
 
 int32_t pci_find_device(const struct pci_board *board, uint32_t id, uint32_t index) {
-    return bios_find_pci_device(board->header, board->registers, id, index);
+    CALL(board, OP_FIND_PCI_DEVICE, .a = id, .b = index);
+    int32_t number = bios_find_pci_device(board->header, board->registers, id, index);
+    ANSWER(board, number, number < 0, 0);
+    return number;
 }
 
 int32_t pci_find_class(const struct pci_board *board, uint32_t class_code, uint32_t index) {
-    return bios_find_pci_classcode(board->header, board->registers, class_code, index);
+    CALL(board, OP_FIND_PCI_CLASSCODE, .a = class_code, .b = index);
+    int32_t number = bios_find_pci_classcode(board->header, board->registers, class_code, index);
+    ANSWER(board, number, number < 0, 0);
+    return number;
 }
 
 int32_t pci_read_config(const struct pci_board *board, unsigned width, uint32_t handle, uint8_t reg, uint32_t *value) {
     LENT({board, sizeof *board}, {value, sizeof *value});
-    return bios_read_config(board->header, board->registers, width, handle, reg, value);
+    CALL(board, OP_READ_CONFIG, .width = width, .reg = reg, .handle = handle);
+    int32_t number = bios_read_config(board->header, board->registers, width, handle, reg, value);
+    ANSWER(board, number, number != 0, *value);
+    return number;
 }
 
 uint32_t pci_fast_read_config(const struct pci_board *board, unsigned width, uint32_t handle, uint8_t reg, int *fault) {
     LENT({board, sizeof *board}, {fault, sizeof *fault});
+    CALL(board, OP_FAST_READ_CONFIG, .width = width, .reg = reg, .handle = handle);
     uint32_t flag;
     uint32_t value = bios_fast_read_config(board->header, board->registers, width, handle, reg, &flag);
+    ANSWER(board, 0, (int)flag, value);
     *fault = (int)flag;
     return value;
 }
 
 int32_t pci_write_config(struct pci_board *board, unsigned width, uint32_t handle, uint8_t reg, uint32_t value) {
-    return bios_write_config(board->header, board->records, board->registers, board->windows, width, handle, reg,
-                             value);
+    CALL(board, OP_WRITE_CONFIG, .width = width, .reg = reg, .handle = handle, .a = value);
+    int32_t number = bios_write_config(board->header, board->records, board->registers, board->windows, width, handle,
+                                       reg, value);
+    ANSWER(board, number, number != 0, 0);
+    return number;
 }
 
 int32_t pci_read_data(const struct pci_board *board, const uint8_t *cells, size_t cells_length, int io, unsigned width,
                       uint32_t handle, uint32_t address, uint32_t *value) {
     LENT({board, sizeof *board}, {cells, cells_length}, {value, sizeof *value});
-    return bios_read_data(board->header, board->records, board->windows, board->cell_offsets,
-                          given_const(cells, cells_length), cells_length, (uint32_t)io, width, handle, address, value);
+    CALL(board, OP_READ_DATA, .width = width, .io = io, .handle = handle, .a = address, CELLS(cells, cells_length));
+    int32_t number = bios_read_data(board->header, board->records, board->windows, board->cell_offsets,
+                                    given_const(cells, cells_length), cells_length, (uint32_t)io, width, handle,
+                                    address, value);
+    ANSWER(board, number, number != 0, *value);
+    return number;
 }
 
 uint32_t pci_fast_read_data(const struct pci_board *board, const uint8_t *cells, size_t cells_length, int io,
                             unsigned width, uint32_t handle, uint32_t address, int *fault) {
     LENT({board, sizeof *board}, {cells, cells_length}, {fault, sizeof *fault});
+    CALL(board, OP_FAST_READ_DATA, .width = width, .io = io, .handle = handle, .a = address,
+         CELLS(cells, cells_length));
     uint32_t flag;
     uint32_t value = bios_fast_read_data(board->header, board->records, board->windows, board->cell_offsets,
                                          given_const(cells, cells_length), cells_length, (uint32_t)io, width, handle,
                                          address, &flag);
+    ANSWER(board, 0, (int)flag, value);
     *fault = (int)flag;
     return value;
 }
@@ -172,24 +245,38 @@ uint32_t pci_fast_read_data(const struct pci_board *board, const uint8_t *cells,
 int32_t pci_write_data(struct pci_board *board, uint8_t *cells, size_t cells_length, int io, unsigned width,
                        uint32_t handle, uint32_t address, uint32_t value) {
     LENT({board, sizeof *board}, {cells, cells_length});
-    return bios_write_data(board->header, board->records, board->windows, board->cell_offsets,
-                           given(cells, cells_length), cells_length, (uint32_t)io, width, handle, address, value);
+    CALL(board, OP_WRITE_DATA, .width = width, .io = io, .handle = handle, .a = address, .b = value,
+         CELLS(cells, cells_length));
+    int32_t number = bios_write_data(board->header, board->records, board->windows, board->cell_offsets,
+                                     given(cells, cells_length), cells_length, (uint32_t)io, width, handle, address,
+                                     value);
+    ANSWER(board, number, number != 0, 0);
+    return number;
 }
 
 int32_t pci_bus_to_cpu(const struct pci_board *board, uint32_t handle, uint32_t address, uint32_t *cpu) {
     LENT({board, sizeof *board}, {cpu, sizeof *cpu});
-    return bios_bus_to_cpu(board->header, board->records, handle, address, cpu);
+    CALL(board, OP_BUS_TO_CPU, .handle = handle, .a = address);
+    int32_t number = bios_bus_to_cpu(board->header, board->records, handle, address, cpu);
+    ANSWER(board, number, number != 0, *cpu);
+    return number;
 }
 
 int32_t pci_cpu_to_bus(const struct pci_board *board, uint32_t handle, uint32_t address, uint32_t *bus) {
     LENT({board, sizeof *board}, {bus, sizeof *bus});
-    return bios_cpu_to_bus(board->header, board->records, handle, address, bus);
+    CALL(board, OP_CPU_TO_BUS, .handle = handle, .a = address);
+    int32_t number = bios_cpu_to_bus(board->header, board->records, handle, address, bus);
+    ANSWER(board, number, number != 0, *bus);
+    return number;
 }
 
 int32_t pci_get_resource(const struct pci_board *board, uint32_t handle, uint8_t *out, size_t length) {
     LENT({board, sizeof *board}, {out, length});
-    return bios_get_resource(board->header, board->records, board->registers, board->windows, handle,
-                             given(out, length), length);
+    CALL(board, OP_GET_RESOURCE, .handle = handle, .own = {out, length});
+    int32_t number = bios_get_resource(board->header, board->records, board->registers, board->windows, handle,
+                                       given(out, length), length);
+    ANSWER(board, number, number != 0, 0);
+    return number;
 }
 
 int32_t pci_descriptor_step(const uint8_t *bytes, size_t length, size_t at, struct pci_descriptor *descriptor,
@@ -207,18 +294,26 @@ int32_t pci_descriptor_step(const uint8_t *bytes, size_t length, size_t at, stru
 }
 
 int32_t pci_hook_interrupt(struct pci_board *board, uint32_t handle, uint32_t handler, uint32_t parameter) {
-    return bios_hook_interrupt(board->header, board->records, board->hooks, handle, handler, parameter);
+    CALL(board, OP_HOOK_INTERRUPT, .handle = handle, .a = handler, .b = parameter);
+    int32_t number = bios_hook_interrupt(board->header, board->records, board->hooks, handle, handler, parameter);
+    ANSWER(board, number, number != 0, 0);
+    return number;
 }
 
 int32_t pci_unhook_interrupt(struct pci_board *board, uint32_t handle) {
-    return bios_unhook_interrupt(board->header, board->hooks, handle);
+    CALL(board, OP_UNHOOK_INTERRUPT, .handle = handle);
+    int32_t number = bios_unhook_interrupt(board->header, board->hooks, handle);
+    ANSWER(board, number, number != 0, 0);
+    return number;
 }
 
 int32_t pci_list_chain(const struct pci_board *board, uint32_t line, uint32_t place, uint32_t *handle,
                        uint32_t *handler, uint32_t *parameter) {
     LENT({board, sizeof *board}, {handle, sizeof *handle}, {handler, sizeof *handler}, {parameter, sizeof *parameter});
+    CALL(board, OP_LIST_CHAIN, .a = line, .b = place);
     uint64_t values[6];
     int32_t number = bios_list_chain(board->records, board->hooks, line, place, values);
+    ANSWER(board, number, number != 0, values[0], values[1], values[2]);
     *handle = (uint32_t)values[0];
     *handler = (uint32_t)values[1];
     *parameter = (uint32_t)values[2];
@@ -227,21 +322,36 @@ int32_t pci_list_chain(const struct pci_board *board, uint32_t line, uint32_t pl
 
 int32_t pci_get_card_used(const struct pci_board *board, uint32_t handle, uint32_t *status, uint32_t *callback) {
     LENT({board, sizeof *board}, {status, sizeof *status}, {callback, sizeof *callback});
-    return bios_get_card_used(board->header, board->used, handle, status, callback);
+    CALL(board, OP_GET_CARD_USED, .handle = handle);
+    int32_t number = bios_get_card_used(board->header, board->used, handle, status, callback);
+    ANSWER(board, number, number != 0, *status, *callback);
+    return number;
 }
 
 int32_t pci_set_card_used(struct pci_board *board, uint32_t handle, uint32_t status, uint32_t callback) {
-    return bios_set_card_used(board->header, board->used, handle, status, callback);
+    CALL(board, OP_SET_CARD_USED, .handle = handle, .a = status, .b = callback);
+    int32_t number = bios_set_card_used(board->header, board->used, handle, status, callback);
+    ANSWER(board, number, number != 0, 0);
+    return number;
 }
 
 int32_t pci_special_cycle(uint8_t bus, uint32_t data) {
-    return bios_special_cycle(bus, data);
+    CALL(NULL, OP_SPECIAL_CYCLE, .reg = bus, .a = data);
+    int32_t number = bios_special_cycle(bus, data);
+    ANSWER(NULL, number, number != 0, 0);
+    return number;
 }
 
 int32_t pci_get_routing(void) {
-    return bios_get_routing(0);
+    CALL(NULL, OP_GET_ROUTING, .handle = 0);
+    int32_t number = bios_get_routing(0);
+    ANSWER(NULL, number, number != 0, 0);
+    return number;
 }
 
 int32_t pci_set_interrupt(void) {
-    return bios_set_interrupt(0, 0);
+    CALL(NULL, OP_SET_INTERRUPT, .handle = 0, .a = 0);
+    int32_t number = bios_set_interrupt(0, 0);
+    ANSWER(NULL, number, number != 0, 0);
+    return number;
 }

@@ -35,7 +35,8 @@ struct pci_descriptor {
 /* The number of an image's first refusal, 0 for none, 8 left out; with 6 the place of the record at fault, else 0. */
 int32_t pci_check_image(const uint8_t *image, size_t length, uint32_t *place);
 
-/* Loads an image; number and place as above, and 8 where the cells are too short. A refused load changes nothing. */
+/* Loads an image; number and place as above, and 8 where the cells are too short. A refused load changes nothing.
+   Aborts with a message where the library's board has other lengths than struct pci_board. */
 int32_t pci_load(struct pci_board *board, uint8_t *cells, size_t cells_length, const uint8_t *image, size_t length,
                  uint32_t *place);
 

@@ -125,7 +125,7 @@ LONG set_interrupt(void) {
 
 intptr_t get_resource(LONG handle) {
     struct resource_descriptor *to = kept_of((uint32_t)handle)->descriptors;
-    uint8_t bytes[sizeof kept->descriptors];
+    uint8_t bytes[sizeof kept->descriptors] = {0}; /* a trace keeps what an output held before */
     struct pci_descriptor d;
     size_t at = 0;
     LONG number = pci_get_resource(board, (uint32_t)handle, bytes, sizeof bytes);

@@ -18,6 +18,10 @@ typedef uint16_t UWORD;
 typedef uint8_t UBYTE;
 #endif
 
+/* The compiler refuses other sizes here; with them results would be half written. */
+typedef char pci_driver_longs[sizeof(LONG) == 4 && sizeof(ULONG) == 4 ? 1 : -1];
+typedef char pci_driver_words[sizeof(UWORD) == 2 && sizeof(UBYTE) == 1 ? 1 : -1];
+
 #define PCI_SUCCESSFUL 0
 #define PCI_FUNC_NOT_SUPPORTED (-2)
 #define PCI_DEVICE_NOT_FOUND (-4)

@@ -1,15 +1,17 @@
-/* The incident, replayed on the board whose image is on standard input: two sizers on one line, and a stray sample that
-   is sized as bin 256 of card one, which by address is bin 0 of card two. */
+/* The incident, replayed on board B1, whose image is on standard input: two sizers on one line, and a stray sample that
+   is sized as bin 256 of card one, which by address is bin 0 of card two. A trace of all calls goes to the file that
+   the argument names, where there is one. */
 #include <inttypes.h>
 #include <stdio.h>
 #include <string.h>
 #include "pci_bios.h"
+#include "pci_trace.h"
 #include "sizer.h"
 
 #define LINE 5
 
 static struct pci_board board;
-static uint8_t image[65537], cells[65536];
+static uint8_t image[65537], cells[1024 + 1024 + 16]; /* as many cells as B1's windows have; a trace keeps them all */
 static struct sizer cards[2];
 static const char *const names[2] = {"card one", "card two"};
 
@@ -63,7 +65,7 @@ static int open_cards(void) {
     return 0;
 }
 
-int main(void) {
+static int run(void) {
     static ULONG before[2][SIZER_BINS], after[2][SIZER_BINS];
     uint32_t place;
     size_t length = fread(image, 1, sizeof image, stdin);
@@ -91,4 +93,15 @@ int main(void) {
     LONG one = sizer_close(&cards[0]), two = sizer_close(&cards[1]);
     printf("closed: %" PRId32 " and %" PRId32 "\n", one, two);
     return 0;
+}
+
+int main(int argc, char **argv) {
+    static struct pci_trace trace;
+    FILE *calls = argc > 1 ? fopen(argv[1], "wb") : NULL;
+    if (argc > 1 && (calls == NULL || pci_trace_start(&trace, &board, cells, sizeof cells, calls, NULL) != 0))
+        return fprintf(stderr, "%s: no trace can be written\n", argv[1]), 1;
+    int status = run();
+    if (calls != NULL && (pci_trace_end(&trace) != 0 || fclose(calls) != 0))
+        return fprintf(stderr, "%s: the trace is not complete\n", argv[1]), 1;
+    return status;
 }

@@ -1,4 +1,5 @@
-/* The tests of the calls for C on board B1, whose image is on standard input; the last line has the counts. */
+/* The tests of the calls for C on board B1, whose image is on standard input; the argument is the file with the trace
+   of the incident. The last line has the counts. */
 #include <inttypes.h>
 #include <stdio.h>
 #include <string.h>
@@ -69,8 +70,8 @@ static void put_trailer(uint8_t *records, uint32_t number) {
     put_long(trailer + 8, sum);
 }
 
-int main(void) {
-    if (fread(image, 1, sizeof image, stdin) != sizeof image)
+int main(int argc, char **argv) {
+    if (argc != 2 || fread(image, 1, sizeof image, stdin) != sizeof image)
         return 2;
     for (int i = 0; i < 16; i++)
         memcpy(sixteen + 544 * i, image, 544);
@@ -80,6 +81,9 @@ int main(void) {
     put_trailer(image, 2);
     test_bios();
     test_driver();
+    test_trace();
+    test_trace_refused();
+    test_incident(argv[1]);
     printf("%d checks, %d failed\n", checks, failed);
     return failed != 0;
 }

@@ -32,5 +32,10 @@ void load_fresh(void);
 
 void test_bios(void);
 void test_driver(void);
+void test_trace(void);
+void test_trace_refused(void);
+
+/* The trace that host/examples/incident.c left in a file. */
+void test_incident(const char *path);
 
 #endif
