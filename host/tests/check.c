@@ -80,6 +80,7 @@ int main(int argc, char **argv) {
     put_long(image + 544 + 540, 0x2000);
     put_trailer(image, 2);
     test_bios();
+    test_altered();
     test_driver();
     test_trace();
     test_trace_refused();

@@ -32,6 +32,7 @@ void load_fresh(void);
 
 void test_bios(void);
 void test_driver(void);
+void test_altered(void);
 void test_trace(void);
 void test_trace_refused(void);
 
