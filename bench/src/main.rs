@@ -1,4 +1,4 @@
-//! `bench [ROUNDS]`: time per call of the proved library against the second implementation.
+//! `bench [SWEEPS]`: time per call of the proved library against the second implementation.
 #![deny(unsafe_op_in_unsafe_fn)]
 
 mod arguments;
@@ -10,26 +10,29 @@ mod proved;
 mod rows;
 mod timing;
 
-use rows::{Row, Rows};
+use rows::{swept, Row};
 use std::process::ExitCode;
-use timing::{loop_alone, Effort};
+use timing::{loop_alone, ROUNDS};
 
-const ROUNDS: usize = 200;
+const SWEEPS: usize = 10;
 
 fn main() -> ExitCode {
     let arguments: Vec<String> = std::env::args().skip(1).collect();
-    let rounds = match arguments.as_slice() {
-        [] => Some(ROUNDS),
-        [rounds] => rounds.parse().ok().filter(|&rounds| rounds > 0),
+    let sweeps = match arguments.as_slice() {
+        [] => Some(SWEEPS),
+        [sweeps] => sweeps.parse().ok().filter(|&sweeps| sweeps > 0),
         _ => None,
     };
-    let Some(rounds) = rounds else {
-        eprintln!("usage: bench [ROUNDS]");
+    let Some(sweeps) = sweeps else {
+        eprintln!("usage: bench [SWEEPS]");
         return ExitCode::from(2);
     };
-    print_conditions(rounds);
-    match [boards::b1(), boards::full()].iter().try_for_each(|board| timed_board(board, rounds)) {
-        Ok(()) => ExitCode::SUCCESS,
+    match timed_rows(sweeps) {
+        Ok(rows) => {
+            print_conditions(sweeps);
+            rows.iter().for_each(print_row);
+            ExitCode::SUCCESS
+        }
         Err(fault) => {
             println!("bench: {fault}");
             ExitCode::FAILURE
@@ -37,16 +40,24 @@ fn main() -> ExitCode {
     }
 }
 
-fn timed_board(board: &boards::TimedBoard, rounds: usize) -> Result<(), String> {
-    let mut rows = Rows::new(board, rounds);
-    rows.time_all()?;
-    rows.rows.iter().for_each(print_row);
-    Ok(())
+/// The best times of each row in so many sweeps through all rows. What slows the machine down
+/// for a while then spoils some rounds of every row, and not every round of some row.
+fn timed_rows(sweeps: usize) -> Result<Vec<Row>, String> {
+    let boards = [boards::b1(), boards::full()];
+    let sweep = || boards.iter().map(swept).collect::<Result<Vec<_>, _>>();
+    let mut best: Vec<Row> = sweep()?.into_iter().flatten().collect();
+    for _ in 1..sweeps {
+        let again = sweep()?;
+        for (row, other) in best.iter_mut().zip(again.iter().flatten()) {
+            row.times = row.times.best(other.times);
+        }
+    }
+    Ok(best)
 }
 
-fn print_conditions(rounds: usize) {
-    let effort = Effort { rounds, times_over: 5 };
-    let alone = loop_alone(&arguments::registers(&boards::b1(), &calls::WIDTHS), effort);
+fn print_conditions(sweeps: usize) {
+    let rounds = sweeps * ROUNDS;
+    let alone = loop_alone(&arguments::registers(&boards::b1(), &calls::WIDTHS), 5);
     println!("Nanoseconds per call, best of {rounds} rounds, of the proved library and of the");
     println!("second implementation. The loop around the calls, {alone:.1}, is in every figure.");
     println!("Machine: {}; {}.", processor(), env!("RUSTC_VERSION"));

@@ -6,7 +6,7 @@ use crate::calls::{Answer, ChainPlace, ConfigCall, DataCall, LONG, WIDTHS};
 use crate::model::Second;
 use crate::pair::Pair;
 use crate::proved::Proved;
-use crate::timing::{timed, Effort, Times};
+use crate::timing::{timed, Times};
 use std::fmt::Debug;
 
 pub struct Row {
@@ -16,26 +16,23 @@ pub struct Row {
     pub times: Times,
 }
 
-/// The rows of one board, as far as they are timed.
-pub struct Rows<'a> {
-    board: &'a TimedBoard,
-    rounds: usize,
-    pub rows: Vec<Row>,
+/// Times every row of a board once.
+pub fn swept(board: &TimedBoard) -> Result<Vec<Row>, String> {
+    let mut rows = Rows { board, rows: Vec::new() };
+    rows.config()?;
+    rows.data()?;
+    rows.listings()?;
+    rows.whole_board()?;
+    Ok(rows.rows)
 }
 
-impl<'a> Rows<'a> {
-    pub fn new(board: &'a TimedBoard, rounds: usize) -> Self {
-        Rows { board, rounds, rows: Vec::new() }
-    }
+/// The rows of one board, as far as they are timed.
+struct Rows<'a> {
+    board: &'a TimedBoard,
+    rows: Vec<Row>,
+}
 
-    /// Times every row.
-    pub fn time_all(&mut self) -> Result<(), String> {
-        self.config()?;
-        self.data()?;
-        self.listings()?;
-        self.whole_board()
-    }
-
+impl Rows<'_> {
     fn config(&mut self) -> Result<(), String> {
         let read = |rows: &mut Self, name, list: &[ConfigCall]| {
             rows.row(name, list, 5, Proved::read_config, Second::read_config)
@@ -92,10 +89,9 @@ impl<'a> Rows<'a> {
         proved: impl Fn(&mut Proved, &A) -> P,
         second: impl Fn(&mut Second, &A) -> S,
     ) -> Result<(), String> {
-        let effort = Effort { rounds: self.rounds, times_over };
         let times = self
             .prepared()
-            .and_then(|mut pair| timed(&mut pair, arguments, effort, proved, second))
+            .and_then(|mut pair| timed(&mut pair, arguments, times_over, proved, second))
             .map_err(|fault| format!("{name} on {}: {fault}", self.board.name))?;
         let calls = arguments.len() * times_over;
         self.rows.push(Row { name, board: self.board.name, calls, times });
