@@ -1,8 +1,9 @@
 //! Boards that a caller altered.
 
 use crate::boards::ENTRIES;
-use crate::parts::{Parts, REGISTERS};
+use crate::parts::Parts;
 use crate::random::Random;
+use exports::REGISTERS;
 use second::{BASES, FUNCTIONS, RECORD_LENGTH, WINDOWS};
 
 /// Alters one to three of the lent parts in a way that no call does.

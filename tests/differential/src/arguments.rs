@@ -4,8 +4,9 @@
 use crate::access::Access;
 use crate::boards::FIRST_BASE;
 use crate::calls::Call;
-use crate::parts::{Parts, REGISTERS};
+use crate::parts::Parts;
 use crate::random::Random;
+use exports::REGISTERS;
 use second::{BASES, FUNCTIONS, RECORD_LENGTH};
 
 /// The class code begins here, with the programming interface.

@@ -2,9 +2,9 @@
 
 use crate::calls::Answer;
 use crate::chain_calls::ChainCall;
-use crate::exports::*;
 use crate::guards::Guarded;
 use crate::proved::{kept, Proved, UNSET};
+use exports::*;
 
 impl Proved {
     pub fn chain(&mut self, call: ChainCall) -> Result<Answer, String> {

@@ -5,9 +5,10 @@ use crate::access::Access;
 use crate::boards::{clear_base, ENTRIES, FIXED, MASKS};
 use crate::calls::Call;
 use crate::pair::Pair;
-use crate::parts::{Parts, REGISTERS};
+use crate::parts::Parts;
 use crate::random::Random;
 use crate::tally::Tally;
+use exports::REGISTERS;
 use second::board_b1::{b1_image, image_of, plain_record, set_window, Shape};
 use second::{Record, BASES};
 

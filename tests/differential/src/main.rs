@@ -20,7 +20,6 @@ mod data_case;
 mod data_met;
 mod data_model;
 mod data_sweep;
-mod exports;
 mod guards;
 mod met;
 mod model;

@@ -4,7 +4,8 @@
 use crate::access::Access;
 use crate::boards::{FIRST_BASE, MASKS};
 use crate::calls::{Answer, Call};
-use crate::parts::{Parts, REGISTERS};
+use crate::parts::Parts;
+use exports::REGISTERS;
 use second::{KeptWindow, RECORD_LENGTH};
 use std::ops::Range;
 

@@ -1,17 +1,8 @@
 //! The lent arrays of a board: their form in `second`, and the first difference of two.
 
-use second::{Board, Hook, KeptWindow, Used, FUNCTIONS, RECORD_LENGTH, WINDOWS};
+use exports::*;
+use second::{Board, Hook, KeptWindow, Used, FUNCTIONS, RECORD_LENGTH};
 use std::fmt::LowerHex;
-
-pub const REGISTERS: usize = 256;
-
-pub type Header = [u32; 4];
-pub type Records = [u8; FUNCTIONS * RECORD_LENGTH];
-pub type Registers = [u8; FUNCTIONS * REGISTERS];
-pub type Windows = [u64; WINDOWS];
-pub type CellOffsets = [u32; WINDOWS + 1];
-pub type Hooks = [u32; 3 * FUNCTIONS];
-pub type UsedMarks = [u32; 2 * FUNCTIONS];
 
 #[derive(Clone)]
 pub struct Parts {

@@ -4,10 +4,10 @@
 
 use crate::access::{Access, DataAccess};
 use crate::calls::{Answer, Call};
-use crate::exports::*;
 use crate::guards::{Guarded, GuardedBytes};
-use crate::parts::*;
+use crate::parts::Parts;
 use crate::resource_proved::descriptor_step;
+use exports::*;
 
 /// What a value handed back holds before the call.
 pub const UNSET: u32 = 0xDEAD_BEEF;

@@ -2,7 +2,8 @@
 //! board.
 
 use crate::boards::{ENTRIES, FIRST_BASE};
-use crate::parts::{Parts, REGISTERS};
+use crate::parts::Parts;
+use exports::REGISTERS;
 use second::{KeptWindow, BASES, DESCRIPTOR_LENGTH, FUNCTIONS, RECORD_LENGTH};
 
 pub struct ResourceCase<'a> {

@@ -1,9 +1,9 @@
 //! Descriptors by the proved code: writing them, and a step through them.
 
 use crate::calls::Answer;
-use crate::exports::{bios_descriptor_step, bios_get_resource};
 use crate::guards::{Guarded, GuardedBytes};
 use crate::proved::{kept, Proved, UNSET};
+use exports::{bios_descriptor_step, bios_get_resource};
 
 impl Proved {
     pub fn get_resource(&mut self, handle: u32, out: &[u8]) -> Result<Answer, String> {

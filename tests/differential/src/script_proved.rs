@@ -1,8 +1,8 @@
 //! The run of a script by the proved code.
 
-use crate::exports::bios_run_script;
 use crate::guards::GuardedBytes;
 use crate::proved::{kept, Proved};
+use exports::bios_run_script;
 
 impl Proved {
     /// Runs a script: the place handed back, and what the run leaves of the script.

@@ -1,7 +1,17 @@
-//! The C functions of the proved library, as host/pci_bios.c declares them too, and the run
-//! of a script.
+//! The C functions of the proved library, as host/pci_bios.c declares them too, the run of a
+//! script, and the lent parts that they take.
 
-use crate::parts::*;
+use second::{FUNCTIONS, RECORD_LENGTH, WINDOWS};
+
+pub const REGISTERS: usize = 256;
+
+pub type Header = [u32; 4];
+pub type Records = [u8; FUNCTIONS * RECORD_LENGTH];
+pub type Registers = [u8; FUNCTIONS * REGISTERS];
+pub type Windows = [u64; WINDOWS];
+pub type CellOffsets = [u32; WINDOWS + 1];
+pub type Hooks = [u32; 3 * FUNCTIONS];
+pub type UsedMarks = [u32; 2 * FUNCTIONS];
 
 extern "C" {
     pub fn bios_check_image(image: *const u8, length: usize, room: usize, place: *mut u32) -> u32;

@@ -1,0 +1,166 @@
+//! The calls by the proved library. This is the only unsafe code of the bench.
+
+use crate::calls::{ChainPlace, ConfigCall, DataCall, Image};
+use exports::*;
+use second::{FUNCTIONS, RECORD_LENGTH, WINDOWS};
+
+/// The lent parts and the cell buffer.
+pub struct Proved {
+    header: Header,
+    records: Records,
+    registers: Registers,
+    windows: Windows,
+    cell_offsets: CellOffsets,
+    hooks: Hooks,
+    used: UsedMarks,
+    pub cells: Vec<u8>,
+}
+
+impl Proved {
+    /// The board before the first load.
+    pub fn new(cells: usize) -> Self {
+        Proved {
+            header: [0; 4],
+            records: [0; FUNCTIONS * RECORD_LENGTH],
+            registers: [0; FUNCTIONS * REGISTERS],
+            windows: [0; WINDOWS],
+            cell_offsets: [0; WINDOWS + 1],
+            hooks: [0; 3 * FUNCTIONS],
+            used: [0; 2 * FUNCTIONS],
+            cells: vec![0; cells],
+        }
+    }
+
+    pub fn load(&mut self, image: &Image) -> (u32, u32) {
+        let mut place = 0;
+        // SAFETY: each pointer is to an array or slice of its type and length, alive and
+        // not otherwise used during the call.
+        let number = unsafe {
+            bios_load(
+                image.0.as_ptr(),
+                image.0.len(),
+                &mut self.header,
+                &mut self.records,
+                &mut self.registers,
+                &mut self.windows,
+                &mut self.cell_offsets,
+                &mut self.hooks,
+                &mut self.used,
+                self.cells.as_mut_ptr(),
+                self.cells.len(),
+                &mut place,
+            )
+        };
+        (number, place)
+    }
+
+    pub fn reset(&mut self, _: &()) -> i32 {
+        // SAFETY: as in `load`.
+        unsafe {
+            bios_reset(
+                &self.header,
+                &self.records,
+                &mut self.registers,
+                &mut self.windows,
+                &self.cell_offsets,
+                &mut self.hooks,
+                &mut self.used,
+                self.cells.as_mut_ptr(),
+                self.cells.len(),
+            )
+        }
+    }
+
+    pub fn read_config(&mut self, call: &ConfigCall) -> (i32, u32) {
+        let mut value = 0;
+        // SAFETY: as in `load`.
+        let number = unsafe {
+            bios_read_config(
+                &self.header,
+                &self.registers,
+                call.width.bytes,
+                call.handle,
+                call.register,
+                &mut value,
+            )
+        };
+        (number, value)
+    }
+
+    pub fn write_config(&mut self, call: &ConfigCall) -> i32 {
+        // SAFETY: as in `load`.
+        unsafe {
+            bios_write_config(
+                &self.header,
+                &self.records,
+                &mut self.registers,
+                &mut self.windows,
+                call.width.bytes,
+                call.handle,
+                call.register,
+                call.value,
+            )
+        }
+    }
+
+    pub fn read_data(&mut self, call: &DataCall) -> (i32, u32) {
+        let mut value = 0;
+        // SAFETY: as in `load`.
+        let number = unsafe {
+            bios_read_data(
+                &self.header,
+                &self.records,
+                &self.windows,
+                &self.cell_offsets,
+                self.cells.as_ptr(),
+                self.cells.len(),
+                call.space.io,
+                call.width.bytes,
+                call.handle,
+                call.address,
+                &mut value,
+            )
+        };
+        (number, value)
+    }
+
+    pub fn write_data(&mut self, call: &DataCall) -> i32 {
+        // SAFETY: as in `load`.
+        unsafe {
+            bios_write_data(
+                &self.header,
+                &self.records,
+                &self.windows,
+                &self.cell_offsets,
+                self.cells.as_mut_ptr(),
+                self.cells.len(),
+                call.space.io,
+                call.width.bytes,
+                call.handle,
+                call.address,
+                call.value,
+            )
+        }
+    }
+
+    pub fn hook_interrupt(&mut self, handle: &u32) -> i32 {
+        let (header, records) = (&self.header, &self.records);
+        // SAFETY: as in `load`.
+        unsafe { bios_hook_interrupt(header, records, &mut self.hooks, *handle, !handle, *handle) }
+    }
+
+    pub fn list_chain(&mut self, at: &ChainPlace) -> (i32, [u64; 6]) {
+        let mut values = [0; 6];
+        let (records, hooks) = (&self.records, &self.hooks);
+        // SAFETY: as in `load`.
+        let number = unsafe { bios_list_chain(records, hooks, at.line, at.place, &mut values) };
+        (number, values)
+    }
+
+    pub fn list_window(&mut self, n: &u32) -> (i32, [u64; 6]) {
+        let mut values = [0; 6];
+        // SAFETY: as in `load`.
+        let number = unsafe { bios_list_window(&self.windows, *n, &mut values) };
+        (number, values)
+    }
+}

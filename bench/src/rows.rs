@@ -1,0 +1,111 @@
+//! The rows of the table: which calls are timed, on which board.
+
+use crate::arguments::{addresses, first_hooks, last_hooks, moves, registers, LIST};
+use crate::boards::TimedBoard;
+use crate::calls::{Answer, ChainPlace, ConfigCall, DataCall, LONG, WIDTHS};
+use crate::model::Second;
+use crate::pair::Pair;
+use crate::proved::Proved;
+use crate::timing::{timed, Times};
+use std::fmt::Debug;
+
+pub struct Row {
+    pub name: &'static str,
+    pub board: &'static str,
+    pub calls: usize,
+    pub times: Times,
+}
+
+/// Times every row of a board once.
+pub fn swept(board: &TimedBoard) -> Result<Vec<Row>, String> {
+    let mut rows = Rows { board, rows: Vec::new() };
+    rows.config()?;
+    rows.data()?;
+    rows.listings()?;
+    rows.whole_board()?;
+    Ok(rows.rows)
+}
+
+/// The rows of one board, as far as they are timed.
+struct Rows<'a> {
+    board: &'a TimedBoard,
+    rows: Vec<Row>,
+}
+
+impl Rows<'_> {
+    fn config(&mut self) -> Result<(), String> {
+        let read = |rows: &mut Self, name, list: &[ConfigCall]| {
+            rows.row(name, list, 5, Proved::read_config, Second::read_config)
+        };
+        let write = |rows: &mut Self, name, list: &[ConfigCall], times_over| {
+            rows.row(name, list, times_over, Proved::write_config, Second::write_config)
+        };
+        let (long, any) = (registers(self.board, &[LONG]), registers(self.board, &WIDTHS));
+        read(self, "configuration read, longword", &long)?;
+        read(self, "configuration read, any width", &any)?;
+        write(self, "configuration write, longword", &long, 5)?;
+        write(self, "configuration write, any width", &any, 5)?;
+        write(self, "base register move", &moves(self.board), 1)
+    }
+
+    fn data(&mut self) -> Result<(), String> {
+        let read = |rows: &mut Self, name, list: &[DataCall]| {
+            rows.row(name, list, 2, Proved::read_data, Second::read_data)
+        };
+        let write = |rows: &mut Self, name, list: &[DataCall]| {
+            rows.row(name, list, 2, Proved::write_data, Second::write_data)
+        };
+        let (long, any) = (addresses(self.board, &[LONG]), addresses(self.board, &WIDTHS));
+        read(self, "data read, longword", &long)?;
+        read(self, "data read, any width", &any)?;
+        write(self, "data write, longword", &long)?;
+        write(self, "data write, any width", &any)
+    }
+
+    fn listings(&mut self) -> Result<(), String> {
+        let chain = |rows: &mut Self, name, list: &[ChainPlace]| {
+            rows.row(name, list, 2, Proved::list_chain, Second::list_chain)
+        };
+        let window = |rows: &mut Self, name, n| {
+            rows.row(name, &[n; LIST], 2, Proved::list_window, Second::list_window)
+        };
+        chain(self, "chain listing, first place", &first_hooks(self.board))?;
+        chain(self, "chain listing, last place", &last_hooks(self.board))?;
+        window(self, "window listing, first place", 0)?;
+        window(self, "window listing, last place", self.board.windows.len() as u32 - 1)
+    }
+
+    fn whole_board(&mut self) -> Result<(), String> {
+        self.row("load", &self.board.images(), 10, Proved::load, Second::load)?;
+        self.row("reset", &[()], 40, Proved::reset, Second::reset)
+    }
+
+    /// Times the calls of a list on the board as `prepared` leaves it.
+    fn row<A: Debug, P: Into<Answer>, S: Into<Answer>>(
+        &mut self,
+        name: &'static str,
+        arguments: &[A],
+        times_over: usize,
+        proved: impl Fn(&mut Proved, &A) -> P,
+        second: impl Fn(&mut Second, &A) -> S,
+    ) -> Result<(), String> {
+        let times = self
+            .prepared()
+            .and_then(|mut pair| timed(&mut pair, arguments, times_over, proved, second))
+            .map_err(|fault| format!("{name} on {}: {fault}", self.board.name))?;
+        let calls = arguments.len() * times_over;
+        self.rows.push(Row { name, board: self.board.name, calls, times });
+        Ok(())
+    }
+
+    /// Both sides with the board loaded, all functions hooked and cells written.
+    fn prepared(&self) -> Result<Pair, String> {
+        let board = self.board;
+        let mut pair = Pair::new(board.cells());
+        pair.accepted(&board.images(), Proved::load, Second::load)?;
+        let handles: Vec<u32> = (1..=board.functions()).rev().collect();
+        pair.accepted(&handles, Proved::hook_interrupt, Second::hook_interrupt)?;
+        pair.accepted(&addresses(board, &WIDTHS), Proved::write_data, Second::write_data)?;
+        Ok(pair)
+    }
+}
