@@ -1,20 +1,30 @@
 // The calls of a trace, one by one.
-use crate::line::line;
-use crate::print::decimal;
-use crate::print::text;
+use crate::forms::CALLS;
+use crate::forms::MALFORMED;
+use crate::forms::OWN_ABOVE;
+use crate::forms::line_of;
+use crate::forms::print;
 use board::layout::CellOffsets;
+use board::layout::FUNCTIONS;
+use board::layout::HOOK;
 use board::layout::Header;
 use board::layout::Hooks;
+use board::layout::MARK;
+use board::layout::RECORD;
+use board::layout::REGISTER_BYTES;
 use board::layout::Records;
 use board::layout::Registers;
 use board::layout::Used;
+use board::layout::WINDOWS;
 use board::layout::Windows;
+use bytes::copy;
 use encoding::decode::Decoded;
 use encoding::decode::decode;
 use encoding::encode::CALL_HEADER;
-use encoding::fields::Fields;
-use encoding::fields::fields_of;
+use encoding::encode::OWN_LENGTH;
 use libc::STDIN_FILENO;
+use numbers::number::Width;
+use numbers::number::big_at;
 use script::turn::turn;
 use std::num::wrapping_add_u64;
 ghost use mathlib.Core.Path.{_≡_};
@@ -23,139 +33,91 @@ ghost use lib.ListN.{length};
 // The longest own buffer of a call in a trace.
 const OWN: usize = 65537;
 
-// Room for one call.
-pub(crate) fn buffer() -> [u8; CALL_HEADER + OWN]
-    ensures { λ r. ⌜ 65601 ≡ length r ⌝ }
-{
-    [0u8; CALL_HEADER + OWN]
-}
+// A header as it was asked.
+type Asked = [u8; CALL_HEADER];
 
-// What stands next in a trace.
-enum Next {
-    Call { fields: Fields, own: u32 },
-    End,
-    Malformed,
-    Long,
-}
-
-// Reads the own buffer of the call whose header was read.
-fn read_own(call: &mut [u8], fields: Fields, own: u32) -> Next
-    requires { ⌜ 65601 ≡ length (now call) ⌝ }
+// Reads the own buffer of the call whose header stands in the room. Gives the line that is printed where the call is none, else 0.
+fn read_own(room: &mut [u8], own: u32) -> u32
+    requires { ⌜ 65601 ≡ length (now room) ⌝ }
 {
     let end = CALL_HEADER + own as usize;
-    if call.len() < end {
-        return Next::Long;
+    if room.len() < end {
+        return OWN_ABOVE;
     }
-    if io::read_full(STDIN_FILENO, &mut call[CALL_HEADER..end]) < own as usize {
-        return Next::Malformed;
+    if io::read_full(STDIN_FILENO, &mut room[CALL_HEADER..end]) < own as usize {
+        return MALFORMED;
     }
-    Next::Call {
-        fields: fields,
-        own: own,
-    }
-}
-
-// Reads the next call.
-fn read_call(call: &mut [u8]) -> Next
-    requires { ⌜ 65601 ≡ length (now call) ⌝ }
-{
-    let got = io::read_full(STDIN_FILENO, &mut call[..CALL_HEADER]);
-    if got == 0 {
-        return Next::End;
-    }
-    if got < CALL_HEADER {
-        return Next::Malformed;
-    }
-    match decode(&call[..CALL_HEADER]) {
-        Decoded::Known { call: asked, own } => read_own(call, fields_of(asked), own),
-        Decoded::Malformed => Next::Malformed,
-    }
-}
-
-// Why a replay stops at a place of the script.
-fn stop(why: &[u8], at: u64) -> u64 {
-    text(why);
-    decimal(at);
-    text(b" of the script\n");
     0
 }
 
-// Performs the next call and prints it. Gives the bytes that it takes, and 0 where there is none: then the last line is printed.
-fn step(
-    calls: u64,
-    at: u64,
-    call: &mut [u8],
-    header: &mut Header,
-    records: &mut Records,
-    registers: &mut Registers,
-    windows: &mut Windows,
-    offsets: &mut CellOffsets,
-    hooks: &mut Hooks,
-    used: &mut Used,
-    cells: &mut [u8],
-) -> u64
-    requires { ⌜ 65601 ≡ length (now call) ⌝ }
+// Reads the next call, its header into `asked` and the whole into the room; gives as above.
+fn read_call(asked: &mut Asked, room: &mut [u8]) -> u32
+    requires { ⌜ 65601 ≡ length (now room) ⌝ }
 {
-    match read_call(call) {
-        Next::Call { fields, own } => {
-            let took = turn(
-                call,
-                header,
-                records,
-                registers,
-                windows,
-                offsets,
-                hooks,
-                used,
-                cells,
-            );
-            line(fields, own, call);
-            took as u64
+    let got = io::read_full(STDIN_FILENO, asked);
+    if got == 0 {
+        return CALLS;
+    }
+    if got < CALL_HEADER {
+        return MALFORMED;
+    }
+    match decode(asked) {
+        Decoded::Known { call: _, own } => {
+            copy(asked, room);
+            read_own(room, own)
         }
-        Next::End => {
-            decimal(calls);
-            text(b" calls\n");
-            0
-        }
-        Next::Malformed => stop(b"malformed call at byte ", at),
-        Next::Long => stop(b"own buffer above 65537 bytes at byte ", at),
+        Decoded::Malformed => MALFORMED,
     }
 }
 
-// Performs and prints the calls up to the end of the input. A proved loop has to end, and nothing says that the input does: it counts calls up to a number that no run reaches.
-pub(crate) fn replay(
-    call: &mut [u8],
-    header: &mut Header,
-    records: &mut Records,
-    registers: &mut Registers,
-    windows: &mut Windows,
-    offsets: &mut CellOffsets,
-    hooks: &mut Hooks,
-    used: &mut Used,
-    cells: &mut [u8],
-)
-    requires { ⌜ 65601 ≡ length (now call) ⌝ }
-{
+// Prints a call that was performed in place.
+fn print_call(asked: &Asked, call: &[u8]) {
+    let own = big_at(asked, OWN_LENGTH, Width::Long);
+    print(line_of(asked, call), own as u64, asked, call);
+}
+
+// Prints the last line: with the calls where the script ended, else with the place where the replay stops.
+fn print_end(line: u32, calls: u64, at: u64) {
+    if line == CALLS {
+        print(line, calls, b"", b"");
+    } else {
+        print(line, at, b"", b"");
+    }
+}
+
+// Performs and prints the calls up to the end of the input, from the board before the first load. A proved loop has to end, and nothing says that the input does: so it counts
+// calls up to a number that no trace reaches.
+pub(crate) fn replay(cells: &mut [u8]) {
+    let mut asked: Asked = [0u8; CALL_HEADER];
+    let mut room = [0u8; CALL_HEADER + OWN];
+    let mut header: Header = [0u32; 4];
+    let mut records: Records = [0u8; FUNCTIONS * RECORD];
+    let mut registers: Registers = [0u8; FUNCTIONS * REGISTER_BYTES];
+    let mut windows: Windows = [0u64; WINDOWS];
+    let mut offsets: CellOffsets = [0u32; WINDOWS + 1];
+    let mut hooks: Hooks = [0u32; HOOK * FUNCTIONS];
+    let mut used: Used = [0u32; MARK * FUNCTIONS];
     let mut calls: u64 = 0;
     let mut at: u64 = 0;
     while calls < u64::MAX {
-        let took = step(
-            calls,
-            at,
-            call,
-            header,
-            records,
-            registers,
-            windows,
-            offsets,
-            hooks,
-            used,
-            cells,
-        );
-        if took == 0 {
+        let line = read_call(&mut asked, &mut room);
+        if line != 0 {
+            print_end(line, calls, at);
             return;
         }
-        at = wrapping_add_u64(at, took);
+        let took = turn(
+            &mut room,
+            &mut header,
+            &mut records,
+            &mut registers,
+            &mut windows,
+            &mut offsets,
+            &mut hooks,
+            &mut used,
+            cells,
+        );
+        print_call(&asked, &room);
+        at = wrapping_add_u64(at, took as u64);
         calls += 1;
     }
 }

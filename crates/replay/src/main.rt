@@ -1,26 +1,15 @@
 // Replays the trace that stands on standard input (docs/TRACE.md): performs its calls and prints each with its arguments and its answer, as a system-call tracer does.
 mod calls;
 mod descriptors;
-mod line;
+mod forms;
 mod print;
 
-use crate::calls::buffer;
 use crate::calls::replay;
-use crate::print::decimal;
-use crate::print::text;
-use board::layout::CellOffsets;
-use board::layout::FUNCTIONS;
-use board::layout::HOOK;
-use board::layout::Header;
-use board::layout::Hooks;
-use board::layout::MARK;
-use board::layout::RECORD;
-use board::layout::REGISTER_BYTES;
-use board::layout::Records;
-use board::layout::Registers;
-use board::layout::Used;
-use board::layout::WINDOWS;
-use board::layout::Windows;
+use crate::forms::CELLS_ABOVE;
+use crate::forms::CELLS_CUT;
+use crate::forms::NO_TRACE;
+use crate::forms::OTHER_VERSION;
+use crate::forms::print;
 use libc::STDIN_FILENO;
 use numbers::number::Width;
 use numbers::number::big_at;
@@ -35,14 +24,15 @@ const OPENING: usize = 12;
 
 const CELLS: usize = 65536;
 
-// What a trace begins with: so many cells, or no trace that is known here.
+// What a trace begins with: so many cells, or what is no trace of this version.
 enum Opening {
     Cells(usize),
     Refused,
 }
 
-fn refuse(why: &[u8]) -> Opening {
-    text(why);
+// Prints a line and no more.
+fn refuse(line: u32, n: u32) -> Opening {
+    print(line, n as u64, b"", b"");
     Opening::Refused
 }
 
@@ -51,42 +41,22 @@ fn open() -> Opening {
     let mut opening = [0u8; OPENING];
     let got = io::read_full(STDIN_FILENO, &mut opening);
     let version = big_at(&opening, 4, Width::Long);
-    if got < OPENING || big_at(&opening, 0, Width::Long) != MAGIC {
-        return refuse(b"not a trace\n");
+    if (got < OPENING) | (big_at(&opening, 0, Width::Long) != MAGIC) {
+        return refuse(NO_TRACE, 0);
     }
     if version != VERSION {
-        text(b"format version ");
-        decimal(version as u64);
-        return refuse(b" is not known\n");
+        return refuse(OTHER_VERSION, version);
     }
     Opening::Cells(big_at(&opening, 8, Width::Long) as usize)
 }
 
-// Reads the cells; then performs and prints the calls, from the board before the first load.
+// Reads the cells, then replays the calls.
 fn run(cells: &mut [u8]) {
     if io::read_full(STDIN_FILENO, cells) < cells.len() {
-        text(b"cells cut short\n");
+        refuse(CELLS_CUT, 0);
         return;
     }
-    let mut call = buffer();
-    let mut header: Header = [0u32; 4];
-    let mut records: Records = [0u8; FUNCTIONS * RECORD];
-    let mut registers: Registers = [0u8; FUNCTIONS * REGISTER_BYTES];
-    let mut windows: Windows = [0u64; WINDOWS];
-    let mut offsets: CellOffsets = [0u32; WINDOWS + 1];
-    let mut hooks: Hooks = [0u32; HOOK * FUNCTIONS];
-    let mut used: Used = [0u32; MARK * FUNCTIONS];
-    replay(
-        &mut call,
-        &mut header,
-        &mut records,
-        &mut registers,
-        &mut windows,
-        &mut offsets,
-        &mut hooks,
-        &mut used,
-        cells,
-    );
+    replay(cells);
 }
 
 fn main() {
@@ -95,7 +65,7 @@ fn main() {
         return;
     };
     if CELLS < length {
-        text(b"cells above 65536\n");
+        refuse(CELLS_ABOVE, 0);
         return;
     }
     run(&mut cells[..length]);

@@ -9,8 +9,7 @@ pub(crate) fn decimal(n: u64) {
     io::print_decimal(STDOUT_FILENO, n);
 }
 
-// A hexadecimal number with at least so many digits.
-pub(crate) fn hexadecimal(n: u32, digits: usize) {
-    text(b"0x");
-    io::print_hex(STDOUT_FILENO, n as u64, digits);
+// The hexadecimal digits of a number of so many bytes; more where it is above what they hold.
+pub(crate) fn hexadecimal(n: u32, bytes: u8) {
+    io::print_hex(STDOUT_FILENO, n as u64, 2 * bytes as usize);
 }

@@ -20,11 +20,8 @@ enum-told c = search needs
 returns : tie.Need-returns
 returns c = search needs
 
-slice-aggregate-text : tie.Need-slice-aggregate-text
-slice-aggregate-text c = search needs
-
-text-requires : tie.Need-text-requires
-text-requires c κs = search needs
+refuse-requires : tie.Need-refuse-requires
+refuse-requires c κs = search needs
 
 returns-2 : tie.Need-returns-2
 returns-2 c = search needs
@@ -50,8 +47,7 @@ main-spec =
     enum-known-length
     enum-told
     returns
-    slice-aggregate-text
-    text-requires
+    refuse-requires
     returns-2
     array-borrow-prefix-cells
     slice-aggregate-run

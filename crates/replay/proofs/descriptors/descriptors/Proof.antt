@@ -5,10 +5,10 @@ use Rattle.replay.proofs.descriptors.descriptors.Statement.{statement}
 use Rattle.replay.proofs.descriptors.descriptors.Tie as tie
 
 abbrev Inv-loop : tie.InvT-loop
-Inv-loop bytes from at₀ n₀ at n = n ≤ 6
+Inv-loop bytes from at₀ n₀ t7 at n = n ≤ 6
 
 abbrev μ-loop : tie.MeasureT-loop
-μ-loop bytes from at₀ n₀ at n = 6 - n
+μ-loop bytes from at₀ n₀ t7 at n = 6 - n
 
 loop-holds : tie.Need-loop-holds Inv-loop μ-loop
 loop-holds c = search needs
@@ -16,14 +16,23 @@ loop-holds c = search needs
 descriptor-step-requires : tie.Need-descriptor-step-requires Inv-loop μ-loop
 descriptor-step-requires c κs = search needs
 
-found-requires : tie.Need-found-requires Inv-loop μ-loop
-found-requires c κs = search needs
+enum-known-descriptor : tie.Need-enum-known-descriptor Inv-loop μ-loop
+enum-known-descriptor c = search needs
+
+enum-told : tie.Need-enum-told Inv-loop μ-loop
+enum-told c = search needs
 
 returns : tie.Need-returns Inv-loop μ-loop
 returns c = search needs
 
-position-requires : tie.Need-position-requires Inv-loop μ-loop
-position-requires c κs = search needs
+slice-aggregate-text : tie.Need-slice-aggregate-text Inv-loop μ-loop
+slice-aggregate-text c = search needs
+
+text-requires : tie.Need-text-requires Inv-loop μ-loop
+text-requires c κs = search needs
+
+fields-requires : tie.Need-fields-requires Inv-loop μ-loop
+fields-requires c κs = search needs
 
 add-n : tie.Need-add-n Inv-loop μ-loop
 add-n c = search needs
@@ -45,9 +54,12 @@ descriptors-spec =
     μ-loop
     loop-holds
     descriptor-step-requires
-    found-requires
+    enum-known-descriptor
+    enum-told
     returns
-    position-requires
+    slice-aggregate-text
+    text-requires
+    fields-requires
     add-n
     loop-less
     loop-again
