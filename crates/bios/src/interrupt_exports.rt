@@ -9,15 +9,15 @@ use card_used::used::set_card_used;
 use chain_listing::listing::list_chain;
 use interrupt::chain::hook_interrupt;
 use interrupt::chain::unhook_interrupt;
-use interrupt::unsupported::get_routing;
-use interrupt::unsupported::set_interrupt;
-use interrupt::unsupported::special_cycle;
+use unsupported::unsupported::get_routing;
+use unsupported::unsupported::set_interrupt;
+use unsupported::unsupported::special_cycle;
 use reference::Values;
 ghost use mathlib.Core.Path.{_≡_};
 ghost use Rattle.interrupt.specs.Hooks.{chainOf};
 ghost use Rattle.interrupt.specs.Chain.{changed, hookInterrupt, unhookInterrupt};
 ghost use Rattle.card_used.specs.Used.{marked, getCardUsed, setCardUsed};
-ghost use Rattle.interrupt.specs.Unsupported.{specialCycle, getRouting, setInterrupt};
+ghost use Rattle.unsupported.specs.Unsupported.{specialCycle, getRouting, setInterrupt};
 ghost use Rattle.bios.specs.Exports.{status, shown, shownHook, cardUsed};
 
 // Puts a handler and its parameter last on the chain of a function's line.

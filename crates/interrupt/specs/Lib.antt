@@ -1,6 +1,5 @@
 -- The definitions that contracts cite, and the statements about them.
 pub mod Hooks
 pub mod Chain
-pub mod Unsupported
 pub mod Steps
 pub mod Meaning

@@ -1,4 +1,3 @@
-// Interrupt chains, and the calls that this board does not support.
+// Interrupt chains.
 pub mod chain;
 pub mod hooks;
-pub mod unsupported;

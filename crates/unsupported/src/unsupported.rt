@@ -1,7 +1,7 @@
 // The calls that this board does not support: they always give FUNC_NOT_SUPPORTED.
 use board::status::Status;
 ghost use mathlib.Core.Path.{_≡_};
-ghost use Rattle.interrupt.specs.Unsupported.{specialCycle, getRouting, setInterrupt};
+ghost use Rattle.unsupported.specs.Unsupported.{specialCycle, getRouting, setInterrupt};
 
 pub fn special_cycle(bus: u8, data: u32) -> Status
     ensures { λ r. ⌜ r ≡ specialCycle bus «data» ⌝ }

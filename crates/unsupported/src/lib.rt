@@ -1,0 +1,2 @@
+// The calls that this board does not support.
+pub mod unsupported;
