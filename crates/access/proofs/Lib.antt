@@ -1,2 +1,4 @@
 -- The laws that proofs here and above cite.
 pub mod Cells
+mod Digits
+mod Inside

@@ -1,6 +1,8 @@
 // Reading and writing cells.
 use crate::place::Place;
 use crate::place::data_place;
+use crate::stored::number_at;
+use crate::stored::put_number;
 use board::address::BusAddress;
 use board::layout::CellOffsets;
 use board::layout::Header;
@@ -13,9 +15,9 @@ use board::status::Status;
 use byte_order::order::ordered;
 use find_window::find::Space;
 use numbers::number::Width;
-use numbers::number::big_at;
-use numbers::number::put_big;
 ghost use mathlib.Core.Path.{_≡_};
+ghost use Prim.Native.Nat.{_+_, _≤_};
+ghost use lib.ListN.{length};
 ghost use Rattle.numbers.specs.Numbers.{bytes};
 ghost use Rattle.find_window.specs.Find.{spaceNumber};
 ghost use Rattle.access.specs.Cells.{valueAt};
@@ -23,9 +25,10 @@ ghost use Rattle.access.specs.Data.{readData, fastReadData, wrote, write
 
 // The value in cells, which are read high byte first.
 fn value_at(cells: &[u8], at: usize, order: u8, width: Width) -> u32
+    requires { ⌜ at + bytes width ≤ length (now cells) ⌝ }
     ensures { λ r. ⌜ r ≡ valueAt order (bytes width) at (now (cells .entry)) ⌝ }
 {
-    ordered(order, width, big_at(cells, at, width))
+    ordered(order, width, number_at(cells, at, width))
 }
 
 // Reads a number of a width in a window.
@@ -125,7 +128,7 @@ pub fn write_data(
         address,
     ) {
         Place::At { at, order } => {
-            put_big(cells, at, width, ordered(order, width, value));
+            put_number(cells, at, width, ordered(order, width, value));
             Status::SUCCESSFUL
         }
         Place::Refused(status) => status,

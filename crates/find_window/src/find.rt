@@ -56,14 +56,14 @@ fn is_in(w: u64, space: Space) -> bool
     }
 }
 
-// Whether a kept number is a window of the function's own, in that space, that holds the address.
+// Whether a kept number is a window of the function's own, in that space, that holds the address. The handle is compared first, as it tells most windows apart.
 fn holds(w: u64, space: Space, handle: u32, address: u32) -> bool
     ensures { λ r. ⌜ r ≡ holds (spaceNumber space) handle address (unpack w) ⌝ }
 {
     let start = start_of(w);
     let end = start as u64 + length_of(w) as u64;
-    is_in(w, space)
-        & ((handle_of(w) == handle)
+    (handle_of(w) == handle)
+        & (is_in(w, space)
             & ((base_of(w) < BASES as u32) & ((start <= address) & ((address as u64) < end))))
 }
 

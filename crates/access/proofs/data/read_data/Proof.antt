@@ -1,5 +1,6 @@
 -- `read_data`: the place decides.
 use mathlib.Core.Path.{sym, _∙_}
+use Rattle.access.proofs.Inside.{place-inside}
 use borrow.Author.Needs.{needs}
 use Rattle.access.proofs.data.read_data.Statement.{statement}
 use Rattle.access.proofs.data.read_data.Tie as tie
@@ -11,7 +12,7 @@ enum-known-at : tie.Need-enum-known-at
 enum-known-at c = search needs
 
 value-at-requires : tie.Need-value-at-requires
-value-at-requires c κs = search needs
+value-at-requires c κs = place-inside _ _ _ _ _ _ _ (sym (c .before .before .before .data-place .ensures) ∙ c .before .at .given .1)
 
 enum-known-status : tie.Need-enum-known-status
 enum-known-status c = search needs

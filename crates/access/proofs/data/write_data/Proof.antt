@@ -1,5 +1,6 @@
 -- `write_data`: the place decides.
 use mathlib.Core.Path.{sym, _∙_}
+use Rattle.access.proofs.Inside.{place-inside}
 use borrow.Author.Needs.{needs}
 use Rattle.access.proofs.data.write_data.Statement.{statement}
 use Rattle.access.proofs.data.write_data.Tie as tie
@@ -13,8 +14,8 @@ enum-known-at c = search needs
 ordered-requires : tie.Need-ordered-requires
 ordered-requires c κs = search needs
 
-put-big-requires : tie.Need-put-big-requires
-put-big-requires c κs = search needs
+put-number-requires : tie.Need-put-number-requires
+put-number-requires c κs = place-inside _ _ _ _ _ _ _ (sym (c .before .before .before .before .before .data-place .ensures) ∙ c .before .before .before .at .given .1)
 
 enum-known-status : tie.Need-enum-known-status
 enum-known-status c = search needs
@@ -23,7 +24,7 @@ same-length : tie.Need-same-length
 same-length c = search needs
 
 returns : tie.Need-returns
-returns c = rw (c .before .before .put-big .ensures, c .before .before .before .ordered .ensures, sym (c .before .before .before .before .before .before .before .before .data-place .ensures) ∙ c .before .before .before .before .before .before .at .given .1)
+returns c = rw (c .before .before .put-number .ensures, c .before .before .before .ordered .ensures, sym (c .before .before .before .before .before .before .before .before .data-place .ensures) ∙ c .before .before .before .before .before .before .at .given .1)
 
 returns-2 : tie.Need-returns-2
 returns-2 c = rw (sym (c .before .before .before .data-place .ensures) ∙ c .before .status .given .1)
@@ -35,7 +36,7 @@ write-data-spec =
     data-place-requires
     enum-known-at
     ordered-requires
-    put-big-requires
+    put-number-requires
     enum-known-status
     same-length
     returns
