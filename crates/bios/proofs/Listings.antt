@@ -5,7 +5,7 @@ use mathlib.Core.List.{List}
 use Rattle.window_list.specs.Windows.{Window}
 use Rattle.window_listing.specs.Listing.{numberOf, valuesOf, Lists}
 use Rattle.window_listing.specs.declared.listing.Listing.{Listing}
-use Rattle.interrupt.specs.Hooks.{Hook}
+use Rattle.hooks.specs.Hooks.{Hook}
 use Rattle.chain_listing.specs.Listing.{chainNumberOf, chainValuesOf, ListsChain}
 use Rattle.chain_listing.specs.declared.listing.ChainListing.{ChainListing}
 use Rattle.reference.specs.declared.Answer.{Answer}

@@ -18,7 +18,7 @@ use Rattle.board.specs.declared.read.FastRead.{FastRead}
 use Rattle.access.specs.Data.{readData, fastReadData, writeData, Wrote as DataWrote, wrote as dataWrote}
 use Rattle.conversions.specs.declared.convert.ToBus.{ToBus}
 use Rattle.conversions.specs.declared.convert.ToCpu.{ToCpu}
-use Rattle.interrupt.specs.Hooks.{Hook}
+use Rattle.hooks.specs.Hooks.{Hook}
 use Rattle.chain_listing.specs.Listing.{chainNumber, chainValues}
 use Rattle.card_used.specs.declared.used.CardUsed.{CardUsed}
 use Rattle.descriptor.specs.declared.descriptor.Descriptor.{Descriptor}

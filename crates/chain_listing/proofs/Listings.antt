@@ -11,7 +11,7 @@ use Rattle.board.specs.Layout.{hookSize}
 use Rattle.board.specs.Statuses.{deviceNotFound, generalError}
 use Rattle.chain_listing.specs.declared.listing.ChainListing.{ChainListing}
 use Rattle.chain_listing.specs.declared.listing.ChainListing.the-variants.{Refused}
-use Rattle.interrupt.specs.Hooks.{Hook, entriesFrom, chosen, lastLine}
+use Rattle.hooks.specs.Hooks.{Hook, entriesFrom, chosen, lastLine}
 use Rattle.chain_listing.specs.Listing.{found, listed, chainListing, chainNumberOf, chainValuesOf, placeNumber, placeValues, chainNumber, chainValues, ListsChain}
 use Rattle.chain_listing.specs.Meaning.{ChainPlaces}
 

@@ -10,7 +10,7 @@ use Rattle.board.specs.Layout.{hookSize}
 use Rattle.board.specs.Statuses.{successful, deviceNotFound, generalError}
 use Rattle.chain_listing.specs.declared.listing.ChainListing.{ChainListing}
 use Rattle.chain_listing.specs.declared.listing.ChainListing.the-variants.{Found, Refused}
-use Rattle.interrupt.specs.Hooks.{Hook, lastLine}
+use Rattle.hooks.specs.Hooks.{Hook, lastLine}
 
 -- the answer that hands back a hook
 abbrev pub found : Hook → ChainListing

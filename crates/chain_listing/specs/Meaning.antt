@@ -5,7 +5,7 @@ use mathlib.Core.Logic.{_↔_}
 use mathlib.Core.Path.{_≡_}
 use lib.ListN.{length}
 use Rattle.board.specs.Statuses.{deviceNotFound}
-use Rattle.interrupt.specs.Hooks.{Hook, lastLine}
+use Rattle.hooks.specs.Hooks.{Hook, lastLine}
 use Rattle.chain_listing.specs.declared.listing.ChainListing.the-variants.{Refused}
 use Rattle.chain_listing.specs.Listing.{found, chainListing}
 

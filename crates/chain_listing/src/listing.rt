@@ -3,13 +3,13 @@ use board::layout::FUNCTIONS;
 use board::layout::Hooks;
 use board::layout::Records;
 use board::status::Status;
-use interrupt::hooks::LAST_LINE;
-use interrupt::hooks::handle_at;
-use interrupt::hooks::handler_at;
-use interrupt::hooks::is_on_line;
-use interrupt::hooks::parameter_at;
+use hooks::hooks::LAST_LINE;
+use hooks::hooks::handle_at;
+use hooks::hooks::handler_at;
+use hooks::hooks::is_on_line;
+use hooks::hooks::parameter_at;
 ghost use mathlib.Core.Path.{_≡_};
-ghost use Rattle.interrupt.specs.Hooks.{hookAt, chainOf};
+ghost use Rattle.hooks.specs.Hooks.{hookAt, chainOf};
 ghost use Rattle.chain_listing.specs.Listing.{found, listed, ListsChain};
 
 // The hook at a place of a chain, or the refusal.

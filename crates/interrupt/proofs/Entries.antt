@@ -10,7 +10,7 @@ use lib.ListN.{getD}
 use borrow.Author.Tests.{eqb-true, eqb-false}
 use Rattle.board.specs.Layout.{functionsMax, hookSize}
 use Rattle.numbers.proofs.Tables.{table-get}
-use Rattle.interrupt.specs.Hooks.{Hook, hookAt, entriesFrom, numberOf, numberAt, arrayOf, chosen}
+use Rattle.hooks.specs.Hooks.{Hook, hookAt, entriesFrom, numberOf, numberAt, arrayOf, chosen}
 
 -- number j of an array is the number of its entries there
 pub number-here : (l : List ℕ) (j : ℕ) → numberAt (hookAt l) j ≡ getD l j 0

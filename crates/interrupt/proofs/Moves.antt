@@ -6,7 +6,7 @@ use mathlib.Core.List.{List, [], _∷_, _++_}
 use mathlib.Core.Path.{_≡_, refl, _∙_, ap}
 use borrow.Author.Tests.{lt-ltb, le-ltb, eq-eqb, ne-eqb}
 use Rattle.board.specs.Layout.{functionsMax}
-use Rattle.interrupt.specs.Hooks.{Hook, hookAt, entriesFrom, entries, arrayOf}
+use Rattle.hooks.specs.Hooks.{Hook, hookAt, entriesFrom, entries, arrayOf}
 use Rattle.interrupt.specs.Chain.{afterHook, afterUnhook}
 use Rattle.interrupt.proofs.Entries.{array-at, entries-same, entries-split}
 

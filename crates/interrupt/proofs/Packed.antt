@@ -11,7 +11,7 @@ use lib.Seq.{getD-append-add, ext-getD}
 use borrow.Author.Tests.{ne-eqb, lt-ltb, le-ltb}
 use Rattle.board.specs.Layout.{functionsMax, hookSize}
 use Rattle.numbers.proofs.Tables.{table-length, table-get}
-use Rattle.interrupt.specs.Hooks.{Hook, noHook, hookAt, entriesFrom, entries, numberAt, arrayOf, lineOf, chosen, onLine, chainOf, numbers, packed}
+use Rattle.hooks.specs.Hooks.{Hook, noHook, hookAt, entriesFrom, entries, numberAt, arrayOf, lineOf, chosen, onLine, chainOf, numbers, packed}
 use Rattle.interrupt.specs.Chain.{firstFrom, isHooked, isFree}
 use Rattle.interrupt.specs.Meaning.{Every, isAmong}
 use Rattle.interrupt.proofs.Entries.{number-here, chosen-append}

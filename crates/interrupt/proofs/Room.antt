@@ -8,7 +8,7 @@ use lib.Dec.{eqb}
 use lib.ListN.{length}
 use borrow.Author.Tests.{eqb-true, eqb-false}
 use Rattle.numbers.proofs.Tests.{either-false}
-use Rattle.interrupt.specs.Hooks.{Hook, hook}
+use Rattle.hooks.specs.Hooks.{Hook, hook}
 use Rattle.interrupt.specs.Meaning.{Every, isAmong, without}
 
 -- each handle at most once

@@ -10,7 +10,7 @@ use borrow.Author.Tests.{eq-eqb, eqb-true, ltb-true}
 use Rattle.board.specs.Handles.{isHandle}
 use Rattle.board.specs.Layout.{functionsMax, hookSize}
 use Rattle.board.specs.Statuses.{successful}
-use Rattle.interrupt.specs.Hooks.{Hook, hookAt, entriesFrom, chosen, onLine, chainOf}
+use Rattle.hooks.specs.Hooks.{Hook, hookAt, entriesFrom, chosen, onLine, chainOf}
 use Rattle.interrupt.specs.Chain.{entryOf, isHooked, unhooked, changed, unhookChecks}
 use Rattle.interrupt.specs.Meaning.{Every, without, GoesOut}
 use Rattle.interrupt.proofs.Entries.{chosen-append, chosen-in, chosen-out, chosen-last-out}

@@ -7,7 +7,7 @@ use Rattle.board.specs.Handles.{isHandle}
 use Rattle.board.specs.Layout.{functionsMax}
 use Rattle.board.specs.Statuses.{successful, setFailed, generalError, badHandle}
 use Rattle.board.specs.declared.status.Status.{Status}
-use Rattle.interrupt.specs.Hooks.{Hook, hook, isHook, hookAt, arrayOf, lineOf, pinOf, lastLine}
+use Rattle.hooks.specs.Hooks.{Hook, hook, isHook, hookAt, arrayOf, lineOf, pinOf, lastLine}
 
 -- one past the last of the first n places at which a test holds, 0 where there is none
 unfoldable pub pastLast : (ℕ → Bool) → ℕ → ℕ

@@ -1,5 +1,4 @@
 -- The definitions that contracts cite, and the statements about them.
-pub mod Hooks
 pub mod Chain
 pub mod Steps
 pub mod Meaning

@@ -8,7 +8,7 @@ use lib.IntN.{ℤ, pos, negsuc}
 use lib.ListN.{length, replicate}
 use Rattle.board.specs.Layout.{functionsMax, hookSize}
 use Rattle.board.specs.Statuses.{successful}
-use Rattle.interrupt.specs.Hooks.{Hook, hook, lineOf, chosen, onLine, chainOf}
+use Rattle.hooks.specs.Hooks.{Hook, hook, lineOf, chosen, onLine, chainOf}
 use Rattle.interrupt.specs.Chain.{Changed, hookInterrupt, unhookInterrupt}
 
 -- every hook of a list has a property

@@ -2,7 +2,7 @@
 use Prim.Native.Nat.{ℕ}
 use Rattle.interrupt.specs.declared.chain.Change.{Change}
 use Rattle.interrupt.specs.declared.chain.Change.the-variants.{In, Out}
-use Rattle.interrupt.specs.Hooks.{Hook, hook}
+use Rattle.hooks.specs.Hooks.{Hook, hook}
 use Rattle.interrupt.specs.Chain.{afterHook, afterUnhook}
 
 abbrev pub after : Change → (ℕ → Hook) → ℕ → Hook

@@ -1,10 +1,6 @@
 // Hooking and unhooking an interrupt.
-use crate::hooks::LAST_LINE;
-use crate::hooks::entry_of;
-use crate::hooks::handle_at;
-use crate::hooks::line_of;
-use crate::hooks::pin_of;
-use crate::hooks::place_for;
+use crate::place::entry_of;
+use crate::place::place_for;
 use board::handle::is_handle;
 use board::layout::FUNCTIONS;
 use board::layout::HOOK;
@@ -12,12 +8,16 @@ use board::layout::Header;
 use board::layout::Hooks;
 use board::layout::Records;
 use board::status::Status;
+use hooks::hooks::LAST_LINE;
+use hooks::hooks::handle_at;
+use hooks::hooks::line_of;
+use hooks::hooks::pin_of;
 use numbers::number::u32_at;
 ghost use mathlib.Core.Path.{_≡_};
 ghost use Prim.Native.Nat.{_*_, _≤_};
 ghost use lib.ListN.{length};
 ghost use Rattle.board.specs.Layout.{functionsMax, hookSize};
-ghost use Rattle.interrupt.specs.Hooks.{hook, numberOf, numberAt, arrayOf, hookAt, lineOf, pinOf};
+ghost use Rattle.hooks.specs.Hooks.{hook, numberOf, numberAt, arrayOf, hookAt, lineOf, pinOf};
 ghost use Rattle.interrupt.specs.Chain.{isRouted, isFree, afterHook, afterUnhook, changed, hookInterrupt, unhookInterrupt};
 ghost use Rattle.interrupt.specs.Steps.{after};
 
@@ -36,7 +36,6 @@ pub(crate) enum Change {
 
 // Whether a function interrupts at all, on a line that there is.
 fn is_routed(records: &Records, handle: u32) -> bool
-    requires { ⌜ 1 ≤ handle ⌝ }
     ensures { λ r. ⌜ r ≡ isRouted (pinOf (now (records .entry)) handle) (lineOf (now (records .entry)) handle) ⌝ }
 {
     (1 <= pin_of(records, handle)) & (line_of(records, handle) <= LAST_LINE)

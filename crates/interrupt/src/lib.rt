@@ -1,3 +1,3 @@
 // Interrupt chains.
 pub mod chain;
-pub mod hooks;
+mod place;

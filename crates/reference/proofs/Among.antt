@@ -9,7 +9,7 @@ use lib.ListN.{length}
 use borrow.Author.Tests.{ne-eqb, eqb-true, eqb-false}
 use Rattle.board.specs.Layout.{functionsMax}
 use Rattle.numbers.proofs.Tests.{either-false}
-use Rattle.interrupt.specs.Hooks.{Hook, chosen, packed}
+use Rattle.hooks.specs.Hooks.{Hook, chosen, packed}
 use Rattle.interrupt.specs.Chain.{unhooked}
 use Rattle.interrupt.specs.Meaning.{Every, isAmong, without}
 use Rattle.interrupt.proofs.Packed.{every-map}

@@ -8,7 +8,7 @@ use lib.Dec.{eqb, leb}
 use lib.ListN.{length}
 use borrow.Author.Tests.{ne-eqb, eqb-true, leb-true, leb-false}
 use Rattle.numbers.specs.Numbers.{byteAt}
-use Rattle.interrupt.specs.Hooks.{Hook, hook, lastLine}
+use Rattle.hooks.specs.Hooks.{Hook, hook, lastLine}
 use Rattle.interrupt.specs.Meaning.{Every, isAmong, without}
 use Rattle.interrupt.proofs.Packed.{every-map}
 use Rattle.interrupt.proofs.Room.{Once, Within, once-few}

@@ -8,7 +8,7 @@ use lib.Dec.{eqb}
 use lib.ListN.{length}
 use borrow.Author.Tests.{eq-eqb, ne-eqb}
 use Rattle.board.specs.Layout.{functionsMax}
-use Rattle.interrupt.specs.Hooks.{Hook, hook, hookAt, lineOf, lastLine, chosen, chainOf, packed}
+use Rattle.hooks.specs.Hooks.{Hook, hook, hookAt, lineOf, lastLine, chosen, chainOf, packed}
 use Rattle.interrupt.specs.Chain.{isHooked, isFree, hooked}
 use Rattle.interrupt.specs.Meaning.{Every, isAmong}
 use Rattle.interrupt.proofs.Entries.{chosen-append}

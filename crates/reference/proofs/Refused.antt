@@ -10,7 +10,7 @@ use Rattle.board.specs.Parts.{Parts, withHooks, withUsed}
 use Rattle.board.specs.Handles.{isHandle}
 use Rattle.descriptor.specs.Descriptor.{size}
 use Rattle.resource.specs.Resource.{Gave, windowBases, resource, sourceOf}
-use Rattle.interrupt.specs.Hooks.{Hook, lineOf, pinOf, lastLine, chainOf}
+use Rattle.hooks.specs.Hooks.{Hook, lineOf, pinOf, lastLine, chainOf}
 use Rattle.interrupt.specs.Chain.{Changed, isRouted, isHooked, isFree}
 use Rattle.chain_listing.specs.Listing.{listed, chainNumberOf, chainValuesOf}
 use Rattle.card_used.specs.Used.{Marked}

@@ -12,7 +12,7 @@ use Rattle.numbers.specs.Numbers.{byteAt}
 use Rattle.numbers.specs.Tables.{tableFrom}
 use Rattle.board.specs.Layout.{functionsMax, bases, windowsMax, recordSize, entriesAt, entrySize, registersEach, hookSize, markSize, exponent}
 use Rattle.numbers.proofs.Tables.{table-same}
-use Rattle.interrupt.specs.Hooks.{lastLine, numbers, packed}
+use Rattle.hooks.specs.Hooks.{lastLine, numbers, packed}
 use Rattle.card_used.specs.Used.{marksOf}
 use Rattle.cells.specs.Cells.{total, cellsBefore, offsetsOf}
 use Rattle.image_format.specs.Image.{imageSize, countOf, recordsOf, recordAt}

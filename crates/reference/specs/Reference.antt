@@ -26,7 +26,7 @@ use Rattle.find_window.specs.declared.find.Finding.the-variants.{Found, BadHand
 use Rattle.access.specs.declared.place.Place.{Place}
 use Rattle.access.specs.declared.place.Place.the-variants.{At, Refused as NoPlace}
 use Rattle.resource.specs.Resource.{Source, resource}
-use Rattle.interrupt.specs.Hooks.{Hook, hook}
+use Rattle.hooks.specs.Hooks.{Hook, hook}
 use Rattle.interrupt.specs.Chain.{isRouted, hookChecks, unhookChecks}
 use Rattle.interrupt.specs.Meaning.{isAmong, without}
 use Rattle.chain_listing.specs.Listing.{chainNumber, chainValues}

@@ -6,7 +6,7 @@ use Rattle.numbers.specs.Tables.{table}
 use Rattle.board.specs.Parts.{Parts, parts}
 use Rattle.board.specs.Layout.{functionsMax, recordSize, registersEach, windowsMax, hookSize, markSize}
 use Rattle.window_list.specs.Kept.{keptList}
-use Rattle.interrupt.specs.Hooks.{Hook, lastLine, packed}
+use Rattle.hooks.specs.Hooks.{Hook, lastLine, packed}
 use Rattle.card_used.specs.Used.{marksOf}
 use Rattle.cells.specs.Cells.{offsetsOf}
 use Rattle.load.specs.Load.{padded}

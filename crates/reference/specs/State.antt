@@ -15,7 +15,7 @@ use Rattle.conversions.specs.Convert.{busToCpu, cpuToBus}
 use Rattle.access.specs.Data.{readData, fastReadData, writeData}
 use Rattle.find_window.specs.Find.{spaceNumber}
 use Rattle.resource.specs.Resource.{getResource}
-use Rattle.interrupt.specs.Hooks.{chainOf}
+use Rattle.hooks.specs.Hooks.{chainOf}
 use Rattle.interrupt.specs.Chain.{hookInterrupt, unhookInterrupt}
 use Rattle.chain_listing.specs.Listing.{chainListing, chainNumberOf, chainValuesOf}
 use Rattle.card_used.specs.Used.{getCardUsed, setCardUsed}

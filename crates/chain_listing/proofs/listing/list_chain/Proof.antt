@@ -1,7 +1,7 @@
 -- `list_chain`: the line is tested, then the chain is walked.
 use native.Mathlib.Omega.{arith}
 use borrow.Author.Tests.{lt-ltb, le-ltb}
-use Rattle.interrupt.specs.Hooks.{lastLine}
+use Rattle.hooks.specs.Hooks.{lastLine}
 use Rattle.chain_listing.proofs.Listings.{lists}
 use borrow.Author.Needs.{needs}
 use Rattle.chain_listing.proofs.listing.list_chain.Statement.{statement}

@@ -2,7 +2,7 @@
 use Prim.Native.Nat.{suc, _+_, _-_, _≤_}
 use mathlib.Core.Path.{_≡_, refl, sym, _∙_}
 use Rattle.board.specs.Layout.{functionsMax}
-use Rattle.interrupt.specs.Hooks.{hookAt, entriesFrom, chosen, onLine, chainOf}
+use Rattle.hooks.specs.Hooks.{hookAt, entriesFrom, chosen, onLine, chainOf}
 use Rattle.chain_listing.specs.Listing.{listed}
 use Rattle.chain_listing.proofs.Listings.{turn-found, turn-counted, turn-passed}
 use borrow.Author.Needs.{needs}

@@ -5,7 +5,7 @@ use lib.ListN.{length, take, length-set}
 use Rattle.numbers.specs.Tables.{tableFrom, table}
 use Rattle.board.specs.Layout.{functionsMax, hookSize}
 use Rattle.numbers.proofs.Tables.{filled-more, filled-all}
-use Rattle.interrupt.specs.Hooks.{hookAt, numberAt}
+use Rattle.hooks.specs.Hooks.{hookAt, numberAt}
 use Rattle.interrupt.specs.Steps.{after}
 use borrow.Author.Needs.{needs}
 use native.Mathlib.Omega.{arith}

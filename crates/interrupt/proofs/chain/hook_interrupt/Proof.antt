@@ -2,7 +2,6 @@
 use mathlib.Core.Path.{sym, _∙_}
 use denote.Ref.{now}
 use borrow.Author.Tests.{not-true, not-false}
-use Rattle.board.proofs.Handles.{handle-place}
 use borrow.Author.Needs.{needs}
 use Rattle.interrupt.proofs.chain.hook_interrupt.Statement.{statement}
 use Rattle.interrupt.proofs.chain.hook_interrupt.Tie as tie
@@ -14,8 +13,7 @@ returns : tie.Need-returns
 returns c = rw (sym (c .before .is-handle .ensures) ∙ not-true _ (c .if1 .taken))
 
 is-routed-requires : tie.Need-is-routed-requires
-is-routed-requires c κs =
-    handle-place (now (c .before .before .args .header)) _ (sym (c .before .is-handle .ensures) ∙ not-false _ (c .if1 .left)) .0
+is-routed-requires c κs = search needs
 
 is-free-requires : tie.Need-is-free-requires
 is-free-requires c κs = search needs
@@ -32,9 +30,7 @@ returns-3 c =
     rw (sym (b .before .is-handle .ensures) ∙ not-false _ (b .if1 .left), sym (d .before .before .before .is-routed .ensures) ∙ not-false _ (d .if2 .left), sym (d .before .is-free .ensures) ∙ not-true _ (c .if3 .taken))
 
 line-of-requires : tie.Need-line-of-requires
-line-of-requires c κs =
-    let b = c .before .before .before .before .before .before in
-    handle-place (now (b .before .before .args .header)) _ (sym (b .before .is-handle .ensures) ∙ not-false _ (b .if1 .left)) .0
+line-of-requires c κs = search needs
 
 place-for-requires : tie.Need-place-for-requires
 place-for-requires c κs = search needs

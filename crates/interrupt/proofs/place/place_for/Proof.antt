@@ -2,13 +2,13 @@
 use Prim.Native.Nat.{_≤_}
 use mathlib.Core.Path.{_≡_, refl, sym, _∙_}
 use Rattle.board.specs.Layout.{functionsMax}
-use Rattle.interrupt.specs.Hooks.{hookAt}
+use Rattle.hooks.specs.Hooks.{hookAt}
 use Rattle.interrupt.specs.Chain.{pastLast, upToLine, placeFor}
 use Rattle.interrupt.proofs.Places.{past-here, past-on}
 use borrow.Author.Needs.{needs}
 use native.Mathlib.Omega.{arith}
-use Rattle.interrupt.proofs.hooks.place_for.Statement.{statement}
-use Rattle.interrupt.proofs.hooks.place_for.Tie as tie
+use Rattle.interrupt.proofs.place.place_for.Statement.{statement}
+use Rattle.interrupt.proofs.place.place_for.Tie as tie
 
 abbrev Inv-loop : tie.InvT-loop
 Inv-loop records hooks line e₀ e =

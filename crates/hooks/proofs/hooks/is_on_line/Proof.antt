@@ -1,10 +1,9 @@
 -- `is_on_line`: no hook is on no line; of a hook the line is that of its function.
 use mathlib.Core.Path.{sym, _∙_}
 use borrow.Author.Tests.{eq-eqb, ne-eqb}
-use native.Mathlib.Omega.{arith}
 use borrow.Author.Needs.{needs}
-use Rattle.interrupt.proofs.hooks.is_on_line.Statement.{statement}
-use Rattle.interrupt.proofs.hooks.is_on_line.Tie as tie
+use Rattle.hooks.proofs.hooks.is_on_line.Statement.{statement}
+use Rattle.hooks.proofs.hooks.is_on_line.Tie as tie
 
 handle-at-requires : tie.Need-handle-at-requires
 handle-at-requires c κs = search needs
@@ -13,7 +12,7 @@ returns : tie.Need-returns
 returns c = rw (eq-eqb _ _ (sym (c .before .handle-at .ensures) ∙ c .if1 .taken))
 
 line-of-requires : tie.Need-line-of-requires
-line-of-requires c κs = omega (arith, c .if1 .left)
+line-of-requires c κs = search needs
 
 returns-2 : tie.Need-returns-2
 returns-2 c =

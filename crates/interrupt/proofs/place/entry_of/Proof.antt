@@ -4,13 +4,13 @@ use mathlib.Core.Path.{_≡_, refl, sym, _∙_}
 use lib.Dec.{eqb}
 use borrow.Author.Tests.{eq-eqb, ne-eqb}
 use Rattle.board.specs.Layout.{functionsMax}
-use Rattle.interrupt.specs.Hooks.{hookAt}
+use Rattle.hooks.specs.Hooks.{hookAt}
 use Rattle.interrupt.specs.Chain.{firstFrom, entryOf}
 use Rattle.interrupt.proofs.Places.{first-here, first-on}
 use borrow.Author.Needs.{needs}
 use native.Mathlib.Omega.{arith}
-use Rattle.interrupt.proofs.hooks.entry_of.Statement.{statement}
-use Rattle.interrupt.proofs.hooks.entry_of.Tie as tie
+use Rattle.interrupt.proofs.place.entry_of.Statement.{statement}
+use Rattle.interrupt.proofs.place.entry_of.Tie as tie
 
 abbrev Inv-loop : tie.InvT-loop
 Inv-loop hooks handle most e₀ e =
