@@ -1,6 +1,5 @@
 -- `hook_interrupt`: the checks in their order, then the hook comes in at its place.
 use mathlib.Core.Path.{sym, _∙_}
-use denote.Ref.{now}
 use borrow.Author.Tests.{not-true, not-false}
 use borrow.Author.Needs.{needs}
 use Rattle.interrupt.proofs.chain.hook_interrupt.Statement.{statement}
