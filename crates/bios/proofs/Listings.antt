@@ -2,7 +2,7 @@
 use Prim.Native.Nat.{ℕ}
 use mathlib.Core.Path.{_≡_}
 use mathlib.Core.List.{List}
-use Rattle.window_list.specs.Windows.{Window}
+use Rattle.window.specs.Window.{Window}
 use Rattle.window_listing.specs.Listing.{numberOf, valuesOf, Lists}
 use Rattle.window_listing.specs.declared.listing.Listing.{Listing}
 use Rattle.hooks.specs.Hooks.{Hook}

@@ -9,7 +9,7 @@ use Rattle.board.specs.Statuses.{generalError}
 use Rattle.board.specs.declared.address.BusAddress.{BusAddress}
 use Rattle.board.specs.declared.address.CpuAddress.{CpuAddress}
 use Rattle.board.specs.declared.status.Status.{Status}
-use Rattle.window_list.specs.Windows.{Window}
+use Rattle.window.specs.Window.{Window}
 use Rattle.window_listing.specs.Listing.{listedNumber, listedValues}
 use Rattle.config.specs.Read.{readConfig, fastReadConfig}
 use Rattle.config.specs.Write.{Wrote, wrote, writeConfig}

@@ -15,7 +15,7 @@ use reference::Values;
 use window_listing::listing::list_window;
 ghost use mathlib.Core.Path.{_≡_};
 ghost use Rattle.board.specs.Parts.{parts};
-ghost use Rattle.window_list.specs.Kept.{unpacked};
+ghost use Rattle.window.specs.Kept.{unpacked};
 ghost use Rattle.image.specs.Check.{checked};
 ghost use Rattle.load.specs.Load.{loaded, load, resetTo, reset};
 ghost use Rattle.image_writer.specs.Write.{written, write};

@@ -6,8 +6,8 @@ use mathlib.Core.Logic.{inl, inr}
 use mathlib.Core.Path.{_≡_, refl}
 use lib.Dec.{eqb}
 use borrow.Author.Tests.{eqb-true}
-use Rattle.window_list.specs.Meaning.{In}
-use Rattle.window_list.specs.Windows.{Window, end}
+use Rattle.window.specs.Window.{In}
+use Rattle.window.specs.Window.{Window, end}
 use Rattle.find_window.specs.declared.find.Finding.the-variants.{Found, BadHandle, ShortCells, NotAligned, Contested, WidthMissing}
 use Rattle.find_window.specs.Find.{holds, judged, inList, find}
 use Rattle.find_window.specs.Meaning.{FoundFor, FoundMeans}

@@ -9,9 +9,9 @@ use borrow.Author.Tests.{eqb-true, leb-true, ltb-true}
 use lib.ListN.{length, getD, drop}
 use Rattle.board.specs.Layout.{bases}
 use Rattle.numbers.proofs.Tests.{both-true}
-use Rattle.window_list.specs.Kept.{unpack, unpacked}
-use Rattle.window_list.specs.Windows.{Window, end}
-use Rattle.window_list.proofs.Unpacked.{unpacked-none, unpacked-one, unpacked-end}
+use Rattle.window.specs.Kept.{unpack, unpacked}
+use Rattle.window.specs.Window.{Window, end}
+use Rattle.window.proofs.Unpacked.{unpacked-none, unpacked-one, unpacked-end}
 use Rattle.find_window.specs.declared.find.Finding.the-variants.{Nothing}
 use Rattle.find_window.specs.Find.{holds, judged, inList}
 

@@ -8,8 +8,8 @@ use Rattle.board.specs.Handles.{isHandle}
 use Rattle.board.specs.Layout.{bases, windowsMax, widths}
 use Rattle.board.specs.Statuses.{successful, funcNotSupported, bufferTooSmall, generalError, badHandle}
 use Rattle.board.specs.declared.status.Status.{Status}
-use Rattle.window_list.specs.Kept.{unpacked}
-use Rattle.window_list.specs.Windows.{Window, end}
+use Rattle.window.specs.Kept.{unpacked}
+use Rattle.window.specs.Window.{Window, end}
 use Rattle.find_window.specs.declared.find.Finding.{Finding}
 use Rattle.find_window.specs.declared.find.Finding.the-variants.{Found, BadHandle, ShortCells, NotAligned, Nothing, Contested, WidthMissing}
 use Rattle.find_window.specs.declared.find.Space.{Space}

@@ -11,19 +11,19 @@ use board::layout::widths;
 use numbers::number::Width;
 use numbers::number::is_multiple;
 use numbers::number::u32_at;
-use window_list::kept::base_of;
-use window_list::kept::handle_of;
-use window_list::kept::is_contested;
-use window_list::kept::is_io;
-use window_list::kept::length_of;
-use window_list::kept::start_of;
+use window::kept::base_of;
+use window::kept::handle_of;
+use window::kept::is_contested;
+use window::kept::is_io;
+use window::kept::length_of;
+use window::kept::start_of;
 ghost use mathlib.Core.Path.{_≡_};
 ghost use lib.Dec.{eqb};
 ghost use Prim.Native.Nat.{_-_, _≤_, _<_};
 ghost use Rattle.board.specs.Layout.{widths};
 ghost use Rattle.numbers.specs.Numbers.{bytes};
-ghost use Rattle.window_list.specs.Kept.{unpack, unpacked};
-ghost use Rattle.window_list.specs.Windows.{end};
+ghost use Rattle.window.specs.Kept.{unpack, unpacked};
+ghost use Rattle.window.specs.Window.{end};
 ghost use Rattle.find_window.specs.Find.{spaceNumber, holds, offers, judged, inList, findIn};
 
 // The two address spaces.

@@ -12,7 +12,7 @@ use Rattle.numbers.specs.Numbers.{bytes}
 use Rattle.board.specs.declared.address.BusAddress.{BusAddress}
 use Rattle.board.specs.declared.address.CpuAddress.{CpuAddress}
 use Rattle.numbers.specs.declared.number.Width.{Width}
-use Rattle.window_list.specs.Windows.{Window}
+use Rattle.window.specs.Window.{Window}
 use Rattle.window_list.proofs.KeptArray.{kept-of}
 use Rattle.access.specs.Cells.{placeOf, dataPlace}
 use Rattle.find_window.specs.Find.{spaceNumber, holds, offers, inList, find, findIn}

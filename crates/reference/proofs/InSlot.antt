@@ -14,7 +14,7 @@ use Rattle.numbers.specs.declared.number.Width.{Width}
 use Rattle.numbers.specs.declared.number.Width.the-variants.{Byte, Word, Long}
 use Rattle.numbers.proofs.Numbers.{power-fours}
 use Rattle.numbers.proofs.Tests.{both-true}
-use Rattle.window_list.specs.Windows.{Window, startOf, isOpen}
+use Rattle.window.specs.Window.{Window, startOf, isOpen}
 use Rattle.window_list.specs.Meaning.{OpenAt}
 use Rattle.window_list.proofs.Meaning.{means}
 use Rattle.byte_order.specs.Orders.{placed}

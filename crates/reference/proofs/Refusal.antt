@@ -14,8 +14,8 @@ use Rattle.board.specs.declared.status.Status.{Status}
 use Rattle.numbers.specs.Numbers.{bytes}
 use Rattle.board.specs.Statuses.{deviceNotFound, badRegisterNumber, badHandle}
 use Rattle.board.specs.Handles.{functionCount, isHandle}
-use Rattle.window_list.specs.Windows.{Window}
-use Rattle.window_list.specs.Kept.{unpacked}
+use Rattle.window.specs.Window.{Window}
+use Rattle.window.specs.Kept.{unpacked}
 use Rattle.window_listing.specs.Listing.{listing, numberOf, valuesOf}
 use Rattle.config.specs.Target.{target}
 use Rattle.config.specs.declared.target.Target.{Target}

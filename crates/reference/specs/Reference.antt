@@ -8,7 +8,8 @@ use lib.ListN.{length, getD, take, drop}
 use Rattle.numbers.specs.Numbers.{byteAt, bytes, big}
 use Rattle.board.specs.Layout.{bases, recordSize, masksAt, entriesAt, entrySize, offsetAt, dmaOffsetAt, baseRegister}
 use Rattle.board.specs.Statuses.{successful, funcNotSupported, bufferTooSmall}
-use Rattle.window_list.specs.Windows.{Window, listOf}
+use Rattle.window.specs.Window.{Window}
+use Rattle.window_list.specs.Windows.{listOf}
 use Rattle.window_listing.specs.Listing.{listedNumber, listedValues}
 use Rattle.config.specs.Target.{target}
 use Rattle.config.specs.Read.{readOf, fastReadOf}

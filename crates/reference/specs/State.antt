@@ -6,7 +6,7 @@ use Rattle.board.specs.Parts.{Parts, withRegisters, withCells, withHooks, withU
 use Rattle.board.specs.Handles.{functionCount}
 use Rattle.board.specs.Layout.{registerByte}
 use Rattle.numbers.specs.Numbers.{bytes}
-use Rattle.window_list.specs.Kept.{unpacked}
+use Rattle.window.specs.Kept.{unpacked}
 use Rattle.window_listing.specs.Listing.{listing, numberOf, valuesOf}
 use Rattle.config.specs.Read.{readConfig, fastReadConfig}
 use Rattle.search.specs.Search.{devices, classes, searched, foundNumber}

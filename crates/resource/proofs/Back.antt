@@ -13,8 +13,8 @@ use Rattle.board.specs.Layout.{exponent}
 use Rattle.numbers.specs.Numbers.{byteAt, big, bigBytes}
 use Rattle.numbers.proofs.Numbers.{big-bytes, big-below}
 use Rattle.numbers.proofs.Tables.{table-length}
-use Rattle.window_list.specs.Kept.{unpack, unpacked}
-use Rattle.window_list.specs.Windows.{spaceOf}
+use Rattle.window.specs.Kept.{unpack, unpacked}
+use Rattle.window.specs.Window.{spaceOf}
 use Rattle.descriptor.specs.declared.descriptor.Descriptor.{Descriptor}
 use Rattle.descriptor.specs.Descriptor.{flags, descriptorBytes, fieldsAt}
 use Rattle.resource.specs.Resource.{isWindow, isOf, startIn, descriptorOf, sourceOf}

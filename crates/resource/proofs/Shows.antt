@@ -15,7 +15,7 @@ use Rattle.board.specs.Layout.{bases}
 use Rattle.board.specs.Statuses.{successful, bufferTooSmall, generalError, badHandle}
 use Rattle.board.specs.declared.status.Status.{Status}
 use Rattle.numbers.proofs.Stores.{sets-other}
-use Rattle.window_list.specs.Windows.{spaceOf}
+use Rattle.window.specs.Window.{spaceOf}
 use Rattle.descriptor.specs.declared.descriptor.Descriptor.{Descriptor}
 use Rattle.descriptor.specs.Descriptor.{size, descriptorBytes, bytesOf, fieldsAt}
 use Rattle.resource.specs.Resource.{isWindow, windowsFrom, windowBases, Source, descriptorOf, described, descriptors, Gave, gave, resource, sourceOf, getResource}

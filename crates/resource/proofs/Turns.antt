@@ -10,8 +10,8 @@ use lib.Seq.{sets}
 use borrow.Author.Tests.{eq-eqb, ne-eqb, leb-true}
 use Rattle.numbers.proofs.Tests.{both-true}
 use Rattle.board.specs.Layout.{bases}
-use Rattle.window_list.specs.Kept.{unpack, unpacked}
-use Rattle.window_list.proofs.Unpacked.{unpacked-none, unpacked-one, unpacked-end}
+use Rattle.window.specs.Kept.{unpack, unpacked}
+use Rattle.window.proofs.Unpacked.{unpacked-none, unpacked-one, unpacked-end}
 use Rattle.descriptor.specs.Descriptor.{size, descriptorBytes, bytesOf}
 use Rattle.resource.specs.Resource.{isWindow, windowsFrom, isOf, shownStart, startIn, Source, descriptorOf, described}
 use Rattle.descriptor.proofs.Fields.{after, bytes-size}

@@ -9,8 +9,8 @@ use Rattle.board.specs.Handles.{isHandle}
 use Rattle.board.specs.Layout.{bases, exponent, byteOrder, widths, offset, dmaOffset, registerByte, baseRegister}
 use Rattle.board.specs.Statuses.{successful, bufferTooSmall, generalError, badHandle}
 use Rattle.board.specs.declared.status.Status.{Status}
-use Rattle.window_list.specs.Kept.{unpacked}
-use Rattle.window_list.specs.Windows.{Window, spaceOf}
+use Rattle.window.specs.Kept.{unpacked}
+use Rattle.window.specs.Window.{Window, spaceOf}
 use Rattle.descriptor.specs.declared.descriptor.Descriptor.{Descriptor}
 use Rattle.descriptor.specs.Descriptor.{size, flags, bytesOf}
 

@@ -10,7 +10,7 @@ use lib.ListN.{length, getD, drop, length-append}
 use lib.Seq.{sets-eq}
 use borrow.Author.Tests.{le-leb}
 use Rattle.board.specs.Layout.{bases}
-use Rattle.window_list.specs.Windows.{spaceOf}
+use Rattle.window.specs.Window.{spaceOf}
 use Rattle.descriptor.specs.declared.descriptor.Descriptor.{Descriptor}
 use Rattle.walker.specs.declared.step.Step.{Step}
 use Rattle.walker.specs.declared.step.Step.the-variants.{Found}

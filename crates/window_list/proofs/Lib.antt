@@ -7,4 +7,3 @@ pub mod Packed
 pub mod Insert
 pub mod Sweep
 pub mod KeptArray
-pub mod Unpacked

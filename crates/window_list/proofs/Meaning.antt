@@ -13,8 +13,10 @@ use Rattle.board.specs.Handles.{functionCount}
 use Rattle.board.specs.Layout.{exponent, registerByte, baseRegister}
 use Rattle.numbers.proofs.Numbers.{little-same}
 use Rattle.numbers.proofs.Tests.{both-true}
-use Rattle.window_list.specs.Windows.{Window, end, windowAt, openWindows, sorted, another, contends, any, withMark, listOf}
-use Rattle.window_list.specs.Meaning.{In, Every, howMany, sameRegister, OpenAt, Contests, Contested, Means, ListMeans, Watched, ListDependsOn}
+use Rattle.window.specs.Window.{Window, end}
+use Rattle.window_list.specs.Windows.{windowAt, openWindows, sorted, another, contends, any, withMark, listOf}
+use Rattle.window.specs.Window.{In}
+use Rattle.window_list.specs.Meaning.{Every, howMany, sameRegister, OpenAt, Contests, Contested, Means, ListMeans, Watched, ListDependsOn}
 use Rattle.window_list.proofs.Lists.{in-every, any-sorted, many-sorted, in-sorted, in-map, map-same, any-in, gather-same}
 use Rattle.window_list.proofs.Order.{Apart, differ, another-by, another-sym, ascending-sorted, ascending-map}
 use Rattle.window_list.proofs.Open.{slot, in-open, open-in, apart-slots}

@@ -12,8 +12,10 @@ use mathlib.Core.List.{List, [], _∷_, _++_}
 use Rattle.board.specs.Layout.{command, baseRegister}
 use Rattle.numbers.proofs.Numbers.{little-below}
 use Rattle.numbers.proofs.Tests.{both-true}
-use Rattle.window_list.specs.Windows.{Window, end, startOf, isOpen, windowOf, windowAt, gather, openWindows, another, withMark}
-use Rattle.window_list.specs.Meaning.{In, Every, OpenAt}
+use Rattle.window.specs.Window.{Window, end, startOf, isOpen, windowOf}
+use Rattle.window_list.specs.Windows.{windowAt, gather, openWindows, another, withMark}
+use Rattle.window.specs.Window.{In}
+use Rattle.window_list.specs.Meaning.{Every, OpenAt}
 use Rattle.window_list.proofs.Lists.{every-in, in-gather}
 use Rattle.window_list.proofs.Order.{Apart, another-by}
 

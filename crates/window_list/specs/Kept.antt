@@ -1,33 +1,10 @@
 -- How the window list is kept in the lent array: a number a window, zeros after the last.
-use Prim.Native.Nat.{ℕ, _+_, _-_, _*_, _/_, _%_, _^_}
-use mathlib.Core.Bool.{cond}
-use mathlib.Core.List.{List, [], _∷_, _++_, map}
-use lib.Dec.{eqb}
+use Prim.Native.Nat.{ℕ, _-_}
+use mathlib.Core.List.{List, _++_, map}
 use lib.ListN.{length, replicate}
 use Rattle.board.specs.Layout.{windowsMax}
-use Rattle.window_list.specs.Windows.{Window}
-
--- from the top: space, start (32 bits), handle (5), base register (3), length (17), contested (1), so that the numbers' order is the list's
-unfoldable pub pack : Window → ℕ
-pack w =
-    ((((w .space * 2 ^ 32 + w .start) * 2 ^ 5 + w .handle) * 2 ^ 3 + w .base) * 2 ^ 17 + w .length) * 2 + cond (w .contested) 1 0
-
--- what a kept number says, by its fields
-abbrev pub unpack : ℕ → Window
-unpack n =
-    record {
-      space = n / 2 ^ 58 % 2;
-      start = n / 2 ^ 26 % 2 ^ 32;
-      length = n / 2 % 2 ^ 17;
-      handle = n / 2 ^ 21 % 2 ^ 5;
-      base = n / 2 ^ 18 % 2 ^ 3;
-      contested = eqb (n % 2) 1;
-    }
-
--- the windows of a kept list: those before the first number of length 0, which is no window
-unfoldable pub unpacked : List ℕ → List Window
-unpacked [] = []
-unpacked (n ∷ l) = cond (eqb (unpack n .length) 0) [] (unpack n ∷ unpacked l)
+use Rattle.window.specs.Window.{Window}
+use Rattle.window.specs.Kept.{pack}
 
 unfoldable pub keptList : List Window → List ℕ
 keptList l = map pack l ++ replicate (windowsMax - length l) 0

@@ -7,12 +7,10 @@ use mathlib.Core.Path.{_≡_}
 use lib.Dec.{eqb}
 use Rattle.board.specs.Handles.{functionCount}
 use Rattle.board.specs.Layout.{bases, exponent, registerByte, command, baseRegister}
-use Rattle.window_list.specs.Windows.{Window, end, isOpen, windowOf, withMark, before, windowList}
-use Rattle.window_list.specs.Kept.{unpacked, keptList}
-
-abbrev pub In : Window → List Window → Type 0
-In w [] = ⊥
-In w (v ∷ l) = (w ≡ v) ⊎ In w l
+use Rattle.window.specs.Window.{Window, end, isOpen, windowOf, In}
+use Rattle.window_list.specs.Windows.{withMark, before, windowList}
+use Rattle.window.specs.Kept.{unpacked}
+use Rattle.window_list.specs.Kept.{keptList}
 
 abbrev pub Every : (Window → Type 0) → List Window → Type 0
 Every P [] = Unit {0}

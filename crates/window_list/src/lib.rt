@@ -1,4 +1,2 @@
-// The window list: base registers decoded, the kept list refreshed.
-mod decode;
-pub mod kept;
+// The window list: the kept list refreshed.
 pub mod refresh;

@@ -11,7 +11,7 @@ use Rattle.window_listing.specs.declared.listing.ListedWindow.{ListedWin
 use Rattle.window_listing.specs.declared.listing.ListedWindow.the-variants.{Memory, Io}
 use Rattle.window_listing.specs.declared.listing.Listing.{Listing}
 use Rattle.window_listing.specs.declared.listing.Listing.the-variants.{Found, Refused}
-use Rattle.window_list.specs.Windows.{Window}
+use Rattle.window.specs.Window.{Window}
 
 abbrev pub inSpace : Bool → ℕ → ℕ → ListedWindow
 inSpace true start length = Io (record { 0 = start }) length

@@ -3,15 +3,15 @@ use board::address::BusAddress;
 use board::layout::Windows;
 use board::status::Status;
 use numbers::number::u64_at;
-use window_list::kept::base_of;
-use window_list::kept::handle_of;
-use window_list::kept::is_contested;
-use window_list::kept::is_io;
-use window_list::kept::length_of;
-use window_list::kept::start_of;
+use window::kept::base_of;
+use window::kept::handle_of;
+use window::kept::is_contested;
+use window::kept::is_io;
+use window::kept::length_of;
+use window::kept::start_of;
 ghost use mathlib.Core.Path.{_≡_};
 ghost use lib.ListN.{length};
-ghost use Rattle.window_list.specs.Kept.{unpack, unpacked};
+ghost use Rattle.window.specs.Kept.{unpack, unpacked};
 ghost use Rattle.window_listing.specs.Listing.{inSpace, found, Lists};
 
 // A window in its space, with its start and length.

@@ -3,8 +3,8 @@ use mathlib.Core.Bool.{Bool, true, false, _&&_}
 use mathlib.Core.Path.{_≡_, refl}
 use lib.Dec.{eqb, leb, ltb}
 use Rattle.board.specs.Layout.{bases}
-use Rattle.window_list.specs.Kept.{unpack}
-use Rattle.window_list.specs.Windows.{end}
+use Rattle.window.specs.Kept.{unpack}
+use Rattle.window.specs.Window.{end}
 use Rattle.find_window.specs.Find.{spaceNumber}
 use borrow.Author.Needs.{needs}
 use Rattle.find_window.proofs.find.holds.Statement.{statement}

@@ -4,7 +4,7 @@ use mathlib.Core.Path.{_≡_, refl, sym, _∙_}
 use lib.ListN.{length, getD, drop}
 use Rattle.board.specs.Layout.{widths}
 use Rattle.numbers.specs.Numbers.{bytes}
-use Rattle.window_list.specs.Kept.{unpack, unpacked}
+use Rattle.window.specs.Kept.{unpack, unpacked}
 use Rattle.find_window.specs.Find.{spaceNumber, offers, inList}
 use Rattle.find_window.proofs.Searches.{held, list-none, list-here, list-on, list-end}
 use borrow.Author.Needs.{needs}

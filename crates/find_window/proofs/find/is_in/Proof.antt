@@ -1,5 +1,5 @@
 -- `is_in`: what is not I/O is memory.
-use Rattle.window_list.specs.Kept.{unpack}
+use Rattle.window.specs.Kept.{unpack}
 use Rattle.find_window.proofs.Searches.{memory-is}
 use borrow.Author.Needs.{needs}
 use native.Mathlib.Omega.{arith}

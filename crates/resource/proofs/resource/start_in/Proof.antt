@@ -2,7 +2,7 @@
 use Prim.Native.Nat.{_-_}
 use mathlib.Core.Path.{_≡_, refl, sym, _∙_}
 use lib.ListN.{length, drop}
-use Rattle.window_list.specs.Kept.{unpacked}
+use Rattle.window.specs.Kept.{unpacked}
 use Rattle.resource.specs.Resource.{startIn}
 use Rattle.resource.proofs.Turns.{start-none, start-here, start-on, start-end}
 use borrow.Author.Needs.{needs}

@@ -3,7 +3,7 @@ use Prim.Native.Nat.{_+_, _-_, _≤_}
 use mathlib.Core.Path.{_≡_, sym, _∙_}
 use native.Mathlib.Omega.{arith}
 use lib.ListN.{length, drop}
-use Rattle.window_list.specs.Kept.{unpacked}
+use Rattle.window.specs.Kept.{unpacked}
 use Rattle.window_listing.proofs.Answers.{counted-none, counted-one, counted-end}
 use borrow.Author.Needs.{needs}
 use Rattle.window_listing.proofs.listing.kept_count.Statement.{statement}

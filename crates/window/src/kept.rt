@@ -2,8 +2,8 @@
 ghost use mathlib.Core.Path.{_≡_};
 ghost use lib.Dec.{eqb};
 ghost use Prim.Native.Nat.{_+_, _*_, _^_, _<_, _≤_};
-ghost use Rattle.window_list.specs.Kept.{unpack};
-ghost use Rattle.window_list.specs.Steps.{begins, ends};
+ghost use Rattle.window.specs.Kept.{unpack};
+ghost use Rattle.window.specs.Kept.{begins, ends};
 
 // How many values each field has, from the lowest: contested, length, base register, handle, start.
 const MARKS: u64 = 2;
@@ -26,11 +26,13 @@ const START: u64 = HANDLE * HANDLES;
 const SPACE: u64 = START * STARTS;
 
 // An unmarked window.
-pub(crate) fn packed(space: u64, start: u64, length: u64, handle: u64, base: u64) -> u64
-    requires { ⌜ (space < 2) × ((start < 4294967296) × ((length ≤ 65536) × ((handle < 32) × (base < 8)))) ⌝ }
+pub(crate) fn packed(space: u64, start: u64, length: u64, handle: u32, base: u8) -> u64
+    requires { ⌜ (space < 2) × ((start < 4294967296) × (length ≤ 65536)) ⌝ }
     ensures { λ r. ⌜ r ≡ ((((space * 2 ^ 32 + start) * 2 ^ 5 + handle) * 2 ^ 3 + base) * 2 ^ 17 + length) * 2 ⌝ }
 {
-    ((((space * STARTS + start) * HANDLES + handle) * BASES + base) * LENGTHS + length) * MARKS
+    ((((space * STARTS + start) * HANDLES + handle as u64) * BASES + base as u64) * LENGTHS
+        + length)
+        * MARKS
 }
 
 // Whether the window is of the I/O space.
@@ -72,13 +74,13 @@ pub fn is_contested(w: u64) -> bool
 }
 
 // Where the window begins and ends, with the I/O addresses after the memory addresses: one comparison then serves both spaces.
-pub(crate) fn beginning(w: u64) -> u64
+pub fn beginning(w: u64) -> u64
     ensures { λ r. ⌜ r ≡ begins w ⌝ }
 {
     w / START
 }
 
-pub(crate) fn ending(w: u64) -> u64
+pub fn ending(w: u64) -> u64
     ensures { λ r. ⌜ r ≡ ends w ⌝ }
 {
     w / START + w / MARKS % LENGTHS

@@ -6,8 +6,8 @@ use native.Mathlib.Omega.{arith}
 use lib.Pow.{pow-pos}
 use borrow.Author.Tests.{lt-ltb}
 use borrow.Author.Needs.{needs}
-use Rattle.window_list.proofs.decode.start.Statement.{statement}
-use Rattle.window_list.proofs.decode.start.Tie as tie
+use Rattle.window.proofs.decode.start.Statement.{statement}
+use Rattle.window.proofs.decode.start.Tie as tie
 
 power-requires : tie.Need-power-requires
 power-requires c κs = search needs

@@ -6,7 +6,7 @@ use mathlib.Core.Path.{_≡_}
 use lib.ListN.{length, getD, drop, drop-of-length-le}
 use lib.Seq.{drop-cons}
 use borrow.Author.Tests.{eq-eqb, ne-eqb}
-use Rattle.window_list.specs.Kept.{unpack, unpacked}
+use Rattle.window.specs.Kept.{unpack, unpacked}
 
 module _ (l : List ℕ) (j : ℕ) where
   pub unpacked-none : j < length l → getD l j 0 / 2 % 2 ^ 17 ≡ 0 → unpacked (drop j l) ≡ []

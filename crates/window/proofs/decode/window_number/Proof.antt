@@ -4,10 +4,10 @@ use mathlib.Core.Path.{_≡_, sym, _∙_}
 use native.Mathlib.Nat.{add-zero, pow-le-pow-right}
 use native.Mathlib.Omega.{arith}
 use borrow.Author.Tests.{eq-eqb, ne-eqb, le-leb, lt-leb, lt-ltb, not-true, not-false}
-use Rattle.window_list.specs.Kept.{pack}
+use Rattle.window.specs.Kept.{pack}
 use borrow.Author.Needs.{needs}
-use Rattle.window_list.proofs.decode.window_number.Statement.{statement}
-use Rattle.window_list.proofs.decode.window_number.Tie as tie
+use Rattle.window.proofs.decode.window_number.Statement.{statement}
+use Rattle.window.proofs.decode.window_number.Tie as tie
 
 returns : tie.Need-returns
 returns c = simp (lt-leb _ _ (c .if1 .taken))
@@ -49,7 +49,7 @@ packed-requires c κs =
     let small : k ≤ 16 = omega arith in
     let e : c .power .result ≡ 2 ^ k = c .power .ensures ∙ rw (lt-ltb k 32 (omega arith)) in
     let l : 2 ^ k ≤ 65536 = pow-le-pow-right {n = 2} (omega arith) small in
-    (omega arith, (omega arith, (omega arith, (omega arith, omega arith))))
+    (omega arith, (omega arith, omega arith))
 
 returns-5 : tie.Need-returns-5
 unfolding pack

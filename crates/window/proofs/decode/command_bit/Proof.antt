@@ -1,7 +1,7 @@
 -- `command_bit`: each arm tests the bit that the definition picks.
 use borrow.Author.Tests.{eq-eqb, ne-eqb}
-use Rattle.window_list.proofs.decode.command_bit.Statement.{statement}
-use Rattle.window_list.proofs.decode.command_bit.Tie as tie
+use Rattle.window.proofs.decode.command_bit.Statement.{statement}
+use Rattle.window.proofs.decode.command_bit.Tie as tie
 
 returns : tie.Need-returns
 returns c = simp (eq-eqb _ _ (c .if1 .taken))

@@ -1,0 +1,2 @@
+-- Laws of kept numbers that the crates above cite.
+pub mod Unpacked
