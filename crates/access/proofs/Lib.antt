@@ -1,4 +1,2 @@
--- The laws that proofs here and above cite.
-pub mod Cells
+-- The laws that proofs here cite.
 mod Digits
-mod Inside

@@ -7,9 +7,9 @@ use Rattle.board.specs.Statuses.{successful}
 use Rattle.board.specs.declared.read.Read.{Read}
 use Rattle.board.specs.declared.read.FastRead.{FastRead}
 use Rattle.board.specs.declared.status.Status.{Status}
-use Rattle.access.specs.declared.place.Place.{Place}
-use Rattle.access.specs.declared.place.Place.the-variants.{At, Refused}
-use Rattle.access.specs.Cells.{dataPlace, valueAt, cellsAfter}
+use Rattle.data_cells.specs.declared.place.Place.{Place}
+use Rattle.data_cells.specs.declared.place.Place.the-variants.{At, Refused}
+use Rattle.data_cells.specs.Cells.{dataPlace, valueAt, cellsAfter}
 
 abbrev pub readAt : ℕ → List ℕ → Place → Read
 readAt w cells (At at order) = accepted (valueAt order w at cells)

@@ -1,4 +1,2 @@
--- The definitions that contracts cite, and the statements about them.
-pub mod Cells
+-- The definitions that contracts cite.
 pub mod Data
-pub mod Meaning

@@ -1,6 +1,4 @@
 // Reading and writing cells.
-use crate::place::Place;
-use crate::place::data_place;
 use crate::stored::number_at;
 use crate::stored::put_number;
 use board::address::BusAddress;
@@ -13,6 +11,8 @@ use board::read::Read;
 use board::read::refused_fast;
 use board::status::Status;
 use byte_order::order::ordered;
+use data_cells::place::Place;
+use data_cells::place::data_place;
 use find_window::find::Space;
 use numbers::number::Width;
 ghost use mathlib.Core.Path.{_≡_};
@@ -20,7 +20,7 @@ ghost use Prim.Native.Nat.{_+_, _≤_};
 ghost use lib.ListN.{length};
 ghost use Rattle.numbers.specs.Numbers.{bytes};
 ghost use Rattle.find_window.specs.Find.{spaceNumber};
-ghost use Rattle.access.specs.Cells.{valueAt};
+ghost use Rattle.data_cells.specs.Cells.{valueAt};
 ghost use Rattle.access.specs.Data.{readData, fastReadData, wrote, writeData};
 
 // The value in cells, which are read high byte first.

@@ -1,4 +1,3 @@
-// Data calls: where the cells of an access stand, reads and writes of cells.
+// Data calls: reads and writes of cells.
 pub mod data;
-pub mod place;
 mod stored;

@@ -7,7 +7,7 @@ use lib.ListN.{length, replicate}
 use Rattle.numbers.specs.Numbers.{bigBytes}
 use Rattle.board.specs.Statuses.{successful, deviceNotFound, generalError}
 use Rattle.numbers.specs.declared.number.Width.the-variants.{Byte, Long}
-use Rattle.access.specs.Cells.{valueAt}
+use Rattle.data_cells.specs.Cells.{valueAt}
 use Rattle.byte_order.specs.Orders.{placed}
 use Rattle.find_window.specs.declared.find.Space.the-variants.{Memory}
 use Rattle.reference.specs.declared.Answer.{Answer}

@@ -12,9 +12,9 @@ use lib.Seq.{getD-append-add, getD-drop}
 use borrow.Author.Tests.{ltb-false, leb-false}
 use Rattle.numbers.specs.Tables.{tableFrom, table}
 use Rattle.numbers.proofs.Tables.{table-length}
-use Rattle.access.specs.Cells.{cellsAfter}
-use Rattle.access.specs.declared.place.Place.the-variants.{At}
-use Rattle.access.proofs.Cells.{only-its-cells}
+use Rattle.data_cells.specs.Cells.{cellsAfter}
+use Rattle.data_cells.specs.declared.place.Place.the-variants.{At}
+use Rattle.data_cells.proofs.Cells.{only-its-cells}
 use Rattle.cells.specs.Cells.{zeroed}
 use Rattle.load.proofs.Lists.{zeroed-length, zeroed-past}
 use Rattle.reference.specs.Claims.{accessed, Alike}

@@ -14,7 +14,7 @@ use Rattle.board.specs.declared.address.CpuAddress.{CpuAddress}
 use Rattle.numbers.specs.declared.number.Width.{Width}
 use Rattle.window.specs.Window.{Window}
 use Rattle.window_list.proofs.KeptArray.{kept-of}
-use Rattle.access.specs.Cells.{placeOf, dataPlace}
+use Rattle.data_cells.specs.Cells.{placeOf, dataPlace}
 use Rattle.find_window.specs.Find.{spaceNumber, holds, offers, inList, find, findIn}
 use Rattle.byte_order.specs.Orders.{placed}
 use Rattle.find_window.specs.declared.find.Finding.{Finding}

@@ -20,7 +20,7 @@ use Rattle.window_list.proofs.Meaning.{means}
 use Rattle.byte_order.specs.Orders.{placed}
 use Rattle.find_window.specs.declared.find.Finding.{Finding}
 use Rattle.find_window.specs.declared.find.Finding.the-variants.{Found, BadHandle, ShortCells, NotAligned, Nothing, Contested, WidthMissing}
-use Rattle.access.specs.declared.place.Place.the-variants.{At}
+use Rattle.data_cells.specs.declared.place.Place.the-variants.{At}
 use Rattle.find_window.proofs.Searches.{Held, held}
 use Rattle.find_window.proofs.Meaning.{found-means}
 use Rattle.byte_order.proofs.Windows.{inside-window}

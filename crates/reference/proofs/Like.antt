@@ -11,9 +11,9 @@ use borrow.Author.Tests.{ltb-true, ltb-false}
 use Rattle.board.specs.Layout.{functionsMax, bases, windowsMax}
 use Rattle.numbers.specs.Numbers.{byteAt, bigBytes}
 use Rattle.numbers.proofs.Numbers.{big-same}
-use Rattle.access.specs.Cells.{valueAt, cellsAfter}
+use Rattle.data_cells.specs.Cells.{valueAt, cellsAfter}
 use Rattle.byte_order.specs.Orders.{ordered}
-use Rattle.access.proofs.Cells.{only-its-cells}
+use Rattle.data_cells.proofs.Cells.{only-its-cells}
 use Rattle.cells.specs.Cells.{slotCells, cellsBefore, total, zeroed}
 use Rattle.cells.proofs.Ranges.{before-apart}
 use Rattle.reference.specs.Reference.{Reference, exponentOf, withCellsOf}

@@ -22,13 +22,13 @@ use Rattle.config.specs.declared.target.Target.{Target}
 use Rattle.config.specs.declared.target.Target.the-variants.{Function, Refused}
 use Rattle.config.specs.Write.{writeConfig}
 use Rattle.search.specs.Search.{searched, foundNumber}
-use Rattle.access.specs.Cells.{placeOf, dataPlace}
+use Rattle.data_cells.specs.Cells.{placeOf, dataPlace}
 use Rattle.find_window.specs.Find.{spaceNumber}
 use Rattle.find_window.specs.declared.find.Finding.{Finding}
 use Rattle.find_window.specs.declared.find.Finding.the-variants.{Found, BadHandle, ShortCells, NotAligned, Nothing, Contested, WidthMissing}
 use Rattle.find_window.specs.declared.find.Space.{Space}
-use Rattle.access.specs.declared.place.Place.{Place}
-use Rattle.access.specs.declared.place.Place.the-variants.{At, Refused as NoPlace}
+use Rattle.data_cells.specs.declared.place.Place.{Place}
+use Rattle.data_cells.specs.declared.place.Place.the-variants.{At, Refused as NoPlace}
 use Rattle.image_format.specs.Image.{imageSize}
 use Rattle.load.specs.Load.{load, reset}
 use Rattle.image_writer.specs.Write.{write}

@@ -14,8 +14,8 @@ use Rattle.access.specs.Data.{readAt, fastReadAt}
 use Rattle.find_window.specs.Find.{spaceNumber}
 use Rattle.find_window.specs.declared.find.Finding.{Finding}
 use Rattle.find_window.specs.declared.find.Finding.the-variants.{Found, BadHandle, ShortCells, NotAligned, Nothing, Contested, WidthMissing}
-use Rattle.access.specs.declared.place.Place.{Place}
-use Rattle.access.specs.declared.place.Place.the-variants.{At, Refused as NoPlace}
+use Rattle.data_cells.specs.declared.place.Place.{Place}
+use Rattle.data_cells.specs.declared.place.Place.the-variants.{At, Refused as NoPlace}
 use Rattle.hooks.specs.Hooks.{Hook}
 use Rattle.interrupt.specs.Chain.{isRouted}
 use Rattle.interrupt.specs.Meaning.{isAmong}

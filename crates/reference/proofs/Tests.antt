@@ -12,8 +12,8 @@ use Rattle.numbers.proofs.Tests.{both-true}
 use Rattle.config.specs.Target.{fits, target}
 use Rattle.config.specs.declared.target.Target.{Target}
 use Rattle.config.specs.declared.target.Target.the-variants.{Function, Refused}
-use Rattle.access.specs.declared.place.Place.{Place}
-use Rattle.access.specs.declared.place.Place.the-variants.{At, Refused as NoPlace}
+use Rattle.data_cells.specs.declared.place.Place.{Place}
+use Rattle.data_cells.specs.declared.place.Place.the-variants.{At, Refused as NoPlace}
 
 pub ifTest : {A : Type 0} (P : A → Type 0) (t : Bool) {x y : A} → (t ≡ true → P x) → (t ≡ false → P y) → P (cond t x y)
 ifTest P true p q = p refl

@@ -13,8 +13,8 @@ use Rattle.numbers.specs.Numbers.{bytes}
 use Rattle.board.specs.Statuses.{funcNotSupported, deviceNotFound, badRegisterNumber, bufferTooSmall, generalError, badHandle, setFailed}
 use Rattle.config.specs.Write.{movesWindows}
 use Rattle.find_window.specs.Find.{spaceNumber}
-use Rattle.access.specs.declared.place.Place.{Place}
-use Rattle.access.specs.declared.place.Place.the-variants.{At, Refused}
+use Rattle.data_cells.specs.declared.place.Place.{Place}
+use Rattle.data_cells.specs.declared.place.Place.the-variants.{At, Refused}
 use Rattle.descriptor.specs.Descriptor.{size}
 use Rattle.resource.specs.Resource.{windowBases}
 use Rattle.cells.specs.Cells.{slotCells, cellsBefore, total}

@@ -17,15 +17,15 @@ use Rattle.config.specs.Write.{written}
 use Rattle.search.specs.Search.{devices, classes, searchNumber}
 use Rattle.config.specs.declared.target.Target.{Target}
 use Rattle.config.specs.declared.target.Target.the-variants.{Function, Refused}
-use Rattle.access.specs.Cells.{cellsAfter}
+use Rattle.data_cells.specs.Cells.{cellsAfter}
 use Rattle.conversions.specs.Convert.{toCpu, toBus}
 use Rattle.access.specs.Data.{readAt, fastReadAt}
 use Rattle.find_window.specs.Find.{spaceNumber, offers, find, statusOf}
 use Rattle.byte_order.specs.Orders.{placed}
 use Rattle.find_window.specs.declared.find.Finding.{Finding}
 use Rattle.find_window.specs.declared.find.Finding.the-variants.{Found, BadHandle, ShortCells, NotAligned, Nothing, Contested, WidthMissing}
-use Rattle.access.specs.declared.place.Place.{Place}
-use Rattle.access.specs.declared.place.Place.the-variants.{At, Refused as NoPlace}
+use Rattle.data_cells.specs.declared.place.Place.{Place}
+use Rattle.data_cells.specs.declared.place.Place.the-variants.{At, Refused as NoPlace}
 use Rattle.resource.specs.Resource.{Source, resource}
 use Rattle.hooks.specs.Hooks.{Hook, hook}
 use Rattle.interrupt.specs.Chain.{isRouted, hookChecks, unhookChecks}

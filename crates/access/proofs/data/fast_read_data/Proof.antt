@@ -1,6 +1,6 @@
 -- `fast_read_data`: the place decides.
 use mathlib.Core.Path.{sym, _∙_}
-use Rattle.access.proofs.Inside.{place-inside}
+use Rattle.data_cells.proofs.Inside.{place-inside}
 use borrow.Author.Needs.{needs}
 use Rattle.access.proofs.data.fast_read_data.Statement.{statement}
 use Rattle.access.proofs.data.fast_read_data.Tie as tie

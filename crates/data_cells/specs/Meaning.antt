@@ -4,7 +4,7 @@ use mathlib.Core.List.{List}
 use mathlib.Core.Logic.{_⊎_}
 use mathlib.Core.Path.{_≡_}
 use lib.ListN.{length, getD}
-use Rattle.access.specs.Cells.{valueAt, cellsAfter}
+use Rattle.data_cells.specs.Cells.{valueAt, cellsAfter}
 
 -- a read after a write of the same width at the same place gives the value written, in every order
 abbrev pub ReadBack : Type 0

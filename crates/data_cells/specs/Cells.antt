@@ -10,8 +10,8 @@ use Rattle.numbers.specs.Numbers.{byteAt, big, bigBytes}
 use Rattle.board.specs.Statuses.{bufferTooSmall}
 use Rattle.find_window.specs.declared.find.Finding.{Finding}
 use Rattle.find_window.specs.declared.find.Finding.the-variants.{Found, BadHandle, ShortCells, NotAligned, Nothing, Contested, WidthMissing}
-use Rattle.access.specs.declared.place.Place.{Place}
-use Rattle.access.specs.declared.place.Place.the-variants.{At, Refused}
+use Rattle.data_cells.specs.declared.place.Place.{Place}
+use Rattle.data_cells.specs.declared.place.Place.the-variants.{At, Refused}
 use Rattle.find_window.specs.Find.{statusOf, findIn}
 use Rattle.byte_order.specs.Orders.{placed, ordered}
 

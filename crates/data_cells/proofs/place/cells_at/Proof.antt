@@ -1,8 +1,8 @@
 -- `cells_at`: the begin of the window's cells, and the place for the distance.
 use borrow.Author.Tests.{lt-ltb, le-ltb}
 use borrow.Author.Needs.{needs}
-use Rattle.access.proofs.place.cells_at.Statement.{statement}
-use Rattle.access.proofs.place.cells_at.Tie as tie
+use Rattle.data_cells.proofs.place.cells_at.Statement.{statement}
+use Rattle.data_cells.proofs.place.cells_at.Tie as tie
 
 byte-order-requires : tie.Need-byte-order-requires
 byte-order-requires c κs = search needs

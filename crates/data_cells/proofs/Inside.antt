@@ -7,9 +7,9 @@ use borrow.Author.Tests.{ltb-false}
 use Rattle.board.specs.Statuses.{bufferTooSmall}
 use Rattle.find_window.specs.declared.find.Finding.{Finding}
 use Rattle.find_window.specs.declared.find.Finding.the-variants.{Found, BadHandle, ShortCells, NotAligned, Nothing, Contested, WidthMissing}
-use Rattle.access.specs.declared.place.Place.the-variants.{At, Refused}
+use Rattle.data_cells.specs.declared.place.Place.the-variants.{At, Refused}
 use Rattle.byte_order.specs.Orders.{placed}
-use Rattle.access.specs.Cells.{placeOf}
+use Rattle.data_cells.specs.Cells.{placeOf}
 
 -- the last test of the cells, turned
 cells-inside : (cell order room w at order′ : ℕ) (b : Bool) → ltb room (cell + w) ≡ b

@@ -20,7 +20,7 @@ ghost use Prim.Native.Nat.{_+_, _*_};
 ghost use Rattle.board.specs.Layout.{bases, byteOrder};
 ghost use Rattle.numbers.specs.Numbers.{bytes};
 ghost use Rattle.find_window.specs.Find.{spaceNumber};
-ghost use Rattle.access.specs.Cells.{cellsAt, dataPlace};
+ghost use Rattle.data_cells.specs.Cells.{cellsAt, dataPlace};
 
 // The first cell and the byte order of an access, or the refusal.
 pub enum Place {

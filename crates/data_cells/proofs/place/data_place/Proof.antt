@@ -2,11 +2,11 @@
 use mathlib.Core.Path.{sym, _∙_}
 use denote.Ref.{now}
 use Rattle.board.proofs.Handles.{handle-place}
-use Rattle.access.specs.Cells.{placeOf}
+use Rattle.data_cells.specs.Cells.{placeOf}
 use Rattle.find_window.proofs.Meaning.{found-means}
 use borrow.Author.Needs.{needs}
-use Rattle.access.proofs.place.data_place.Statement.{statement}
-use Rattle.access.proofs.place.data_place.Tie as tie
+use Rattle.data_cells.proofs.place.data_place.Statement.{statement}
+use Rattle.data_cells.proofs.place.data_place.Tie as tie
 
 find-window-requires : tie.Need-find-window-requires
 find-window-requires c κs = search needs

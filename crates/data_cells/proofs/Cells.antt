@@ -13,7 +13,7 @@ use Rattle.numbers.proofs.Numbers.{reversed-below, reversed-back, big-bytes}
 use Rattle.numbers.proofs.Stores.{sets-other}
 use Rattle.numbers.proofs.Tables.{table-length}
 use Rattle.byte_order.specs.Orders.{ordered}
-use Rattle.access.specs.Meaning.{ReadBack, OnlyItsCells}
+use Rattle.data_cells.specs.Meaning.{ReadBack, OnlyItsCells}
 
 -- the bytes of a value, stored where there is room, make the value modulo 256 ^ w
 stored-value : (w at value : ℕ) (cells : List ℕ) → at + w ≤ length cells → big w (byteAt (sets cells at (bigBytes w value))) at ≡ value % 256 ^ w

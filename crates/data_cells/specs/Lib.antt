@@ -1,0 +1,3 @@
+-- The definitions that contracts cite, and the statements about them.
+pub mod Cells
+pub mod Meaning
