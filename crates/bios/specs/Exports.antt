@@ -11,7 +11,7 @@ use Rattle.board.specs.declared.address.CpuAddress.{CpuAddress}
 use Rattle.board.specs.declared.status.Status.{Status}
 use Rattle.window.specs.Window.{Window}
 use Rattle.window_listing.specs.Listing.{listedNumber, listedValues}
-use Rattle.config.specs.Read.{readConfig, fastReadConfig}
+use Rattle.config_read.specs.Read.{readConfig, fastReadConfig}
 use Rattle.config.specs.Write.{Wrote, wrote, writeConfig}
 use Rattle.board.specs.declared.read.Read.{Read}
 use Rattle.board.specs.declared.read.FastRead.{FastRead}
@@ -24,7 +24,7 @@ use Rattle.card_used.specs.declared.used.CardUsed.{CardUsed}
 use Rattle.descriptor.specs.declared.descriptor.Descriptor.{Descriptor}
 use Rattle.walker.specs.declared.step.Step.{Step}
 use Rattle.walker.specs.declared.step.Step.the-variants.{Found as StepFound, Ended as StepEnded}
-use Rattle.image.specs.declared.check.Verdict.{Verdict}
+use Rattle.refusals.specs.declared.verdict.Verdict.{Verdict}
 use Rattle.asked_width.specs.declared.width.AskedWidth.{AskedWidth}
 use Rattle.asked_width.specs.declared.width.AskedWidth.the-variants.{Known, Other}
 

@@ -6,12 +6,12 @@ use board::layout::Windows;
 use board::read::FastRead;
 use board::read::Read;
 use board::status::Status;
-use config::read::fast_read_config;
-use config::read::read_config;
 use config::write::write_config;
+use config_read::read::fast_read_config;
+use config_read::read::read_config;
 use numbers::number::Width;
 ghost use mathlib.Core.Path.{_≡_};
-ghost use Rattle.config.specs.Read.{readConfig, fastReadConfig};
+ghost use Rattle.config_read.specs.Read.{readConfig, fastReadConfig};
 ghost use Rattle.config.specs.Write.{wrote, writeConfig};
 
 pub fn read_config_byte(header: &Header, registers: &Registers, handle: u32, register: u8) -> Read

@@ -14,12 +14,12 @@ use Rattle.window_list.specs.Kept.{keptList}
 use Rattle.window_list.specs.Meaning.{Watched}
 use Rattle.window_list.specs.Windows.{windowList}
 use Rattle.window_list.proofs.Meaning.{list-depends-on}
-use Rattle.config.specs.declared.target.Target.{Target}
-use Rattle.config.specs.declared.target.Target.the-variants.{Function, Refused}
-use Rattle.config.specs.Target.{target}
+use Rattle.config_read.specs.declared.target.Target.{Target}
+use Rattle.config_read.specs.declared.target.Target.the-variants.{Function, Refused}
+use Rattle.config_read.specs.Target.{target}
 use Rattle.config.specs.Write.{bytesWritten, movesWindows, writeTo}
 use Rattle.config.specs.Meaning.{MovesWindows, ListFollows}
-use Rattle.config.proofs.Targets.{inside-registers}
+use Rattle.config_read.proofs.Targets.{inside-registers}
 use Rattle.config.proofs.Written.{written-elsewhere}
 
 -- where a byte that the list depends on is addressed, the list is worked out anew

@@ -1,6 +1,6 @@
--- What configuration calls mean, without the proofs.
+-- What configuration writes mean, without the proofs.
 use Prim.Native.Nat.{ℕ, _+_, _-_, _*_, _/_, _%_, _^_, _<_, _≤_}
-use mathlib.Core.Bool.{Bool, true, false, cond, _&&_}
+use mathlib.Core.Bool.{true, cond, _&&_}
 use mathlib.Core.List.{List}
 use mathlib.Core.Logic.{_↔_}
 use mathlib.Core.Path.{_≡_}
@@ -13,14 +13,9 @@ use Rattle.board.specs.Statuses.{successful}
 use Rattle.window_list.specs.Kept.{keptList}
 use Rattle.window_list.specs.Meaning.{Watched}
 use Rattle.window_list.specs.Windows.{windowList}
-use Rattle.config.specs.declared.target.Target.the-variants.{Function}
-use Rattle.config.specs.Target.{target}
-use Rattle.config.specs.Read.{readConfig, fastReadConfig}
+use Rattle.config_read.specs.declared.target.Target.the-variants.{Function}
+use Rattle.config_read.specs.Target.{target}
 use Rattle.config.specs.Write.{written, bytesWritten, movesWindows, writeConfig}
-
--- no accepted access passes FFh
-abbrev pub InsideRegisters : Type 0
-InsideRegisters = (good : Bool) (w handle register i : ℕ) → target good w handle register ≡ Function i → register + w ≤ registersEach
 
 -- bit by bit: the written bit where the mask has 1, else the one that stood there
 abbrev pub MaskedBits : Type 0
@@ -64,12 +59,3 @@ ListFollows =
     → windows ≡ keptList (windowList header records registers)
     → writeConfig w header records registers windows handle register value .windows
     ≡ keptList (windowList header records (writeConfig w header records registers windows handle register value .registers))
-
--- an accepted fast read equals the plain read; a refused one is refused as the plain read is, and gives all ones of its width
-abbrev pub FastRead : Type 0
-FastRead =
-    (w : ℕ) (header registers : List ℕ) (handle register : ℕ)
-    → ((fastReadConfig w header registers handle register .fault ≡ false) ↔ (readConfig w header registers handle register .status ≡ successful))
-    × ((fastReadConfig w header registers handle register .fault ≡ false
-    → fastReadConfig w header registers handle register .value ≡ readConfig w header registers handle register .value)
-    × (fastReadConfig w header registers handle register .fault ≡ true → fastReadConfig w header registers handle register .value ≡ 256 ^ w - 1))

@@ -11,9 +11,9 @@ use Rattle.board.specs.Statuses.{successful}
 use Rattle.board.specs.declared.status.Status.{Status}
 use Rattle.window_list.specs.Kept.{keptList}
 use Rattle.window_list.specs.Windows.{windowList}
-use Rattle.config.specs.declared.target.Target.{Target}
-use Rattle.config.specs.declared.target.Target.the-variants.{Function, Refused}
-use Rattle.config.specs.Target.{target}
+use Rattle.config_read.specs.declared.target.Target.{Target}
+use Rattle.config_read.specs.declared.target.Target.the-variants.{Function, Refused}
+use Rattle.config_read.specs.Target.{target}
 
 -- the byte at a register after a write: the written bits where its mask has 1, the rest kept; so for every register
 abbrev pub written : ℕ → ℕ → ℕ → ℕ → ℕ

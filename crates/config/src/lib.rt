@@ -1,4 +1,2 @@
-// Configuration registers, read and written through their masks.
-pub mod read;
-pub mod target;
+// Configuration registers, written through their masks.
 pub mod write;

@@ -1,6 +1,4 @@
 // Writing configuration registers through their masks.
-use crate::target::Target;
-use crate::target::target_of;
 use board::layout::BASE_0;
 use board::layout::COMMAND;
 use board::layout::Header;
@@ -11,6 +9,8 @@ use board::layout::Windows;
 use board::layout::mask_byte;
 use board::layout::register_byte;
 use board::status::Status;
+use config_read::target::Target;
+use config_read::target::target_of;
 use numbers::number::Width;
 use numbers::number::bytes;
 use numbers::number::put_byte;

@@ -17,7 +17,7 @@ use Rattle.interrupt.specs.Chain.{Changed, changed}
 use Rattle.card_used.specs.Used.{marked, setCardUsed}
 use Rattle.load.specs.Load.{loaded, load, resetTo, reset}
 use Rattle.image_writer.specs.Write.{written, write}
-use Rattle.image.specs.declared.check.Verdict.{Verdict}
+use Rattle.refusals.specs.declared.verdict.Verdict.{Verdict}
 use Rattle.reference.specs.declared.Answer.{Answer}
 use Rattle.reference.specs.declared.Call.{Call}
 use Rattle.reference.specs.declared.Call.the-variants.{Load, Reset, WriteImage, WriteConfig, WriteData, GetResource, SetCardUsed}

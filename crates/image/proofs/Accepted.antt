@@ -11,10 +11,10 @@ use borrow.Author.Tests.{eq-eqb, ne-eqb, le-ltb, ltb-false, eqb-true, eqb-false,
 use Rattle.board.specs.Layout.{functionsMax, recordSize}
 use Rattle.numbers.proofs.Tests.{either-false}
 use Rattle.image_format.specs.Image.{trailerSize, imageSize, countOf, recordsOf}
-use Rattle.image.specs.Refusals.{Facts, imageMax, cellsMax, accepted, refused, badRecord, firstRefusal}
-use Rattle.image.specs.Steps.{formRefusal, recordsVerdict, cellsVerdict}
+use Rattle.refusals.specs.Refusals.{Facts, imageMax, cellsMax, accepted, refused, badRecord, firstRefusal}
+use Rattle.refusals.specs.Steps.{formRefusal, recordsVerdict, cellsVerdict}
 use Rattle.image.specs.Check.{factsOf, checked}
-use Rattle.image.specs.declared.check.Verdict.{Verdict}
+use Rattle.refusals.specs.declared.verdict.Verdict.{Verdict}
 
 -- the facts of an image that no refusal applies to
 pub record Fine (f : Facts) (room : ℕ) : Type 0 where
@@ -84,18 +84,6 @@ by-steps f room =
     each false false true d = refl
     each false false false true = refl
     each false false false false = refl
-
--- where all but the last of the trailer's tests are passed
-pub form-last : (long edition count distance : ℕ) → trailerSize ≤ long → edition ≡ 1 → (count ≡ 0 → ⊥) → count ≤ functionsMax
-    → distance ≡ imageSize count → formRefusal long edition count distance ≡ cond (ltb long (imageSize count)) 4 0
-form-last long edition count distance l e n f d =
-    rw (
-      le-ltb long trailerSize l,
-      eq-eqb edition 1 e,
-      ne-eqb count 0 n,
-      le-ltb functionsMax count f,
-      eq-eqb distance (imageSize count) d,
-    )
 
 -- of a fine image only the cells are left to ask, whatever number of them is lent
 pub cells-left : (f : Facts) (r : ℕ) → Fine f r → (room : ℕ) → firstRefusal f room ≡ cellsVerdict (f .total) room

@@ -7,8 +7,8 @@ use lib.ListN.{length}
 use Rattle.board.specs.Layout.{exponent}
 use Rattle.cells.specs.Cells.{total}
 use Rattle.image_format.specs.Image.{distanceOf, countOf, editionOf, sumOf, recordsOf, recordAt, sum}
-use Rattle.image.specs.Refusals.{Facts, imageMax, refused, firstBad, firstRefusal}
-use Rattle.image.specs.declared.check.Verdict.{Verdict}
+use Rattle.refusals.specs.Refusals.{Facts, imageMax, refused, firstBad, firstRefusal}
+use Rattle.refusals.specs.declared.verdict.Verdict.{Verdict}
 
 -- what an image says of itself, where f i is its record at place i and k i b the length exponent of base register b there
 abbrev pub facts : List ℕ → (ℕ → List ℕ) → (ℕ → ℕ → ℕ) → Facts

@@ -1,4 +1,2 @@
 -- The definitions that contracts cite.
-pub mod Refusals
 pub mod Check
-pub mod Steps

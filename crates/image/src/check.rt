@@ -1,5 +1,4 @@
 // The check of a board image, without a board.
-use board::layout::FUNCTIONS;
 use board::layout::RECORD;
 use cells::cells::total_of;
 use image_format::sum::TRAILER;
@@ -7,36 +6,22 @@ use image_format::sum::sum_of;
 use numbers::number::Width;
 use numbers::number::big_at;
 use record::rules::record_ok;
+use refusals::verdict::Verdict;
+use refusals::verdict::cells_verdict;
+use refusals::verdict::form_refusal;
+use refusals::verdict::plain;
 ghost use mathlib.Core.Path.{_≡_};
 ghost use Prim.Native.Nat.{_*_, _<_, _≤_};
 ghost use lib.ListN.{length};
 ghost use Rattle.board.specs.Layout.{functionsMax, recordSize, exponent};
 ghost use Rattle.cells.specs.Cells.{total};
-ghost use Rattle.image_format.specs.Image.{imageSize, trailerSize, recordAt, sum};
-ghost use Rattle.image.specs.Refusals.{firstBad};
-ghost use Rattle.image.specs.Steps.{formRefusal, cellsVerdict, recordsVerdict};
+ghost use Rattle.image_format.specs.Image.{recordAt, sum};
+ghost use Rattle.refusals.specs.Refusals.{firstBad};
+ghost use Rattle.refusals.specs.Steps.{recordsVerdict};
 ghost use Rattle.image.specs.Check.{judged, checked};
 
-// Bytes of an image and of all cells at most.
+// Bytes of an image at most.
 pub const IMAGE: usize = 65536;
-
-pub const CELLS: u32 = 65536;
-
-// The number of the first refusal that applies, 0 for none; with 6 the place of the first bad record, else 0.
-pub struct Verdict {
-    pub number: u8,
-    pub place: u32,
-}
-
-// A verdict that names no record.
-fn plain(number: u8) -> Verdict
-    ensures { λ r. ⌜ r ≡ record { number = number; place = 0 } ⌝ }
-{
-    Verdict {
-        number: number,
-        place: 0,
-    }
-}
 
 // The first of count records that breaks a rule, count where none does.
 fn first_bad(records: &[u8], count: usize) -> usize
@@ -53,44 +38,6 @@ fn first_bad(records: &[u8], count: usize) -> usize
         i += 1;
     }
     i
-}
-
-// Refusals 2 to 4 of an image that has a trailer; 0 for none.
-fn form_refusal(long: usize, edition: u32, count: u32, distance: u32) -> u8
-    requires { ⌜ trailerSize ≤ long ⌝ }
-    ensures { λ r. ⌜ r ≡ formRefusal long edition count distance ⌝ }
-    ensures { λ r. ⌜ (r ≡ 0 → (count ≤ functionsMax) × (imageSize count ≤ long)) ⌝ }
-{
-    if edition != 1 {
-        return 2;
-    }
-    if count == 0 {
-        return 3;
-    }
-    if (FUNCTIONS as u32) < count {
-        return 3;
-    }
-    let size = RECORD * count as usize + TRAILER;
-    if (distance as usize) != size {
-        return 4;
-    }
-    if long < size {
-        return 4;
-    }
-    0
-}
-
-// Refusals 7 and 8.
-fn cells_verdict(total: u32, room: usize) -> Verdict
-    ensures { λ r. ⌜ r ≡ cellsVerdict total room ⌝ }
-{
-    if CELLS < total {
-        return plain(7);
-    }
-    if room < total as usize {
-        return plain(8);
-    }
-    plain(0)
 }
 
 // Refusals 5 to 8 of count records, with the sum that the trailer says.

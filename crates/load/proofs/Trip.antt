@@ -17,13 +17,13 @@ use Rattle.numbers.proofs.Numbers.{big-below, big-bytes, bytes-big}
 use Rattle.numbers.proofs.Tables.{table-length}
 use Rattle.cells.specs.Cells.{total, offsetsOf}
 use Rattle.image_format.specs.Image.{imageSize, back, distanceOf, countOf, editionOf, sumOf, recordsOf, sum, trailer}
-use Rattle.image.specs.Refusals.{accepted}
-use Rattle.image.specs.Steps.{cellsVerdict}
+use Rattle.refusals.specs.Refusals.{accepted}
+use Rattle.refusals.specs.Steps.{cellsVerdict}
 use Rattle.image.specs.Check.{factsOf, checked}
 use Rattle.load.specs.Load.{Loaded, loaded, load, padded, restarted, installed}
 use Rattle.image_writer.specs.Write.{Written, write, written}
 use Rattle.load.specs.Meaning.{rewritten, RoundTrip, WrittenBack, ImageAlone}
-use Rattle.image.specs.declared.check.Verdict.{Verdict}
+use Rattle.refusals.specs.declared.verdict.Verdict.{Verdict}
 use Rattle.image_writer.proofs.Lists.{trailer-length}
 use Rattle.image.proofs.Accepted.{Fine, Accepted, accepted-image, accepted-elsewhere, records-length}
 

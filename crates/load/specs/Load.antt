@@ -14,7 +14,7 @@ use Rattle.window_list.specs.Kept.{keptList}
 use Rattle.cells.specs.Cells.{offsetsOf, zeroed}
 use Rattle.image_format.specs.Image.{countOf, recordsOf}
 use Rattle.image.specs.Check.{checked}
-use Rattle.image.specs.declared.check.Verdict.{Verdict}
+use Rattle.refusals.specs.declared.verdict.Verdict.{Verdict}
 
 -- the loaded records, zeros after the last
 abbrev pub padded : List ℕ → List ℕ

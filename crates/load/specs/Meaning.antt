@@ -6,7 +6,7 @@ use lib.ListN.{length}
 use Rattle.numbers.specs.Numbers.{byteAt}
 use Rattle.board.specs.Parts.{Parts}
 use Rattle.image_format.specs.Image.{imageSize, countOf}
-use Rattle.image.specs.Refusals.{accepted}
+use Rattle.refusals.specs.Refusals.{accepted}
 use Rattle.image_writer.specs.Write.{Written, write}
 use Rattle.load.specs.Load.{load}
 

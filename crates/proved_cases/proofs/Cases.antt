@@ -4,7 +4,7 @@ use Rattle.numbers.specs.Numbers.{little, big, reversed}
 use Rattle.numbers.specs.Tables.{tableFrom}
 use Rattle.window_list.specs.Windows.{windowAt, gather, openWindows, put, putAll, listOf}
 use Rattle.window_listing.specs.Listing.{listedNumber, listedValues}
-use Rattle.config.specs.Target.{target}
+use Rattle.config_read.specs.Target.{target}
 use Rattle.search.specs.Search.{matching, searchNumber}
 use Rattle.find_window.specs.Find.{inList, find}
 use Rattle.descriptor.specs.Descriptor.{descriptorBytes, bytesOf}
@@ -15,7 +15,7 @@ use Rattle.window_entry.specs.Entry.{entryOk}
 use Rattle.record.specs.Record.{recordOk}
 use Rattle.cells.specs.Cells.{cellsBefore}
 use Rattle.image_format.specs.Image.{sum}
-use Rattle.image.specs.Refusals.{firstBad, firstRefusal}
+use Rattle.refusals.specs.Refusals.{firstBad, firstRefusal}
 use Rattle.reference.specs.Reference.{placeIn, split, verdict, referenceStep}
 use Rattle.reference.specs.Run.{referenceAnswers}
 use Rattle.proved_cases.specs.B1.{stored, b1}

@@ -12,12 +12,12 @@ use Rattle.numbers.specs.Numbers.{little, big}
 use Rattle.numbers.specs.Tables.{tableFrom}
 use Rattle.window_list.specs.Windows.{windowAt, gather, openWindows, put, putAll, listOf}
 use Rattle.window_listing.specs.Listing.{listedNumber, listedValues}
-use Rattle.config.specs.Target.{target}
+use Rattle.config_read.specs.Target.{target}
 use Rattle.window_entry.specs.Entry.{entryOk}
 use Rattle.record.specs.Record.{recordOk}
 use Rattle.cells.specs.Cells.{cellsBefore}
 use Rattle.image_format.specs.Image.{sum}
-use Rattle.image.specs.Refusals.{firstBad, firstRefusal}
+use Rattle.refusals.specs.Refusals.{firstBad, firstRefusal}
 use Rattle.reference.specs.Reference.{split, verdict, referenceStep}
 use Rattle.reference.specs.Run.{Heard}
 use Rattle.proved_cases.specs.B1.{stored, b1}

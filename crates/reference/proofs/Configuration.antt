@@ -11,11 +11,11 @@ use Rattle.board.specs.Layout.{registersEach, registerByte}
 use Rattle.board.specs.Parts.{withRegisters}
 use Rattle.window_list.specs.Windows.{windowList}
 use Rattle.window_list.specs.Kept.{keptList}
-use Rattle.config.specs.Target.{target}
-use Rattle.config.specs.Read.{readOf, fastReadOf}
+use Rattle.config_read.specs.Target.{target}
+use Rattle.config_read.specs.Read.{readOf, fastReadOf}
 use Rattle.config.specs.Write.{Wrote, writeTo}
 use Rattle.search.specs.Search.{deviceMatches, classMatches, matching, searched, foundNumber, searchNumber}
-use Rattle.config.specs.declared.target.Target.{Target}
+use Rattle.config_read.specs.declared.target.Target.{Target}
 use Rattle.config.proofs.Moves.{list-follows}
 use Rattle.search.proofs.Searches.{search-number, matching-same, device-same, class-same}
 use Rattle.reference.specs.declared.Call.the-variants.{FindPciDevice, FindPciClasscode, ReadConfig, FastReadConfig, WriteConfig}

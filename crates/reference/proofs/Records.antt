@@ -8,7 +8,7 @@ use lib.Seq.{getD-append-add, getD-take, getD-drop, drop-drop, length-take-le}
 use Rattle.numbers.specs.Numbers.{byteAt}
 use Rattle.board.specs.Layout.{recordSize, recordByte}
 use Rattle.image_format.specs.Image.{recordAt}
-use Rattle.image.specs.Refusals.{firstBad}
+use Rattle.refusals.specs.Refusals.{firstBad}
 use Rattle.reference.specs.Reference.{recordOf, joined, split}
 
 -- every record has all its bytes

@@ -17,9 +17,9 @@ use Rattle.board.specs.Handles.{functionCount, isHandle}
 use Rattle.window.specs.Window.{Window}
 use Rattle.window.specs.Kept.{unpacked}
 use Rattle.window_listing.specs.Listing.{listing, numberOf, valuesOf}
-use Rattle.config.specs.Target.{target}
-use Rattle.config.specs.declared.target.Target.{Target}
-use Rattle.config.specs.declared.target.Target.the-variants.{Function, Refused}
+use Rattle.config_read.specs.Target.{target}
+use Rattle.config_read.specs.declared.target.Target.{Target}
+use Rattle.config_read.specs.declared.target.Target.the-variants.{Function, Refused}
 use Rattle.config.specs.Write.{writeConfig}
 use Rattle.search.specs.Search.{searched, foundNumber}
 use Rattle.data_cells.specs.Cells.{placeOf, dataPlace}

@@ -9,9 +9,9 @@ use Rattle.board.specs.Layout.{registersEach}
 use Rattle.board.specs.Statuses.{badRegisterNumber, badHandle}
 use Rattle.board.specs.declared.status.Status.{Status}
 use Rattle.numbers.proofs.Tests.{both-true}
-use Rattle.config.specs.Target.{fits, target}
-use Rattle.config.specs.declared.target.Target.{Target}
-use Rattle.config.specs.declared.target.Target.the-variants.{Function, Refused}
+use Rattle.config_read.specs.Target.{fits, target}
+use Rattle.config_read.specs.declared.target.Target.{Target}
+use Rattle.config_read.specs.declared.target.Target.the-variants.{Function, Refused}
 use Rattle.data_cells.specs.declared.place.Place.{Place}
 use Rattle.data_cells.specs.declared.place.Place.the-variants.{At, Refused as NoPlace}
 

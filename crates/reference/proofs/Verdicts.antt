@@ -9,9 +9,9 @@ use lib.IntN.{pos}
 use lib.ListN.{length}
 use Rattle.board.specs.Layout.{functionsMax}
 use Rattle.image_format.specs.Image.{trailerSize, imageSize}
-use Rattle.image.specs.Refusals.{Facts, imageMax, cellsMax, accepted, refused, badRecord, firstRefusal}
+use Rattle.refusals.specs.Refusals.{Facts, imageMax, cellsMax, accepted, refused, badRecord, firstRefusal}
 use Rattle.image.specs.Check.{factsOf, checked}
-use Rattle.image.specs.declared.check.Verdict.{Verdict}
+use Rattle.refusals.specs.declared.verdict.Verdict.{Verdict}
 use Rattle.reference.specs.declared.Call.the-variants.{Load}
 use Rattle.reference.specs.Claims.{Among, refusals}
 use Rattle.reference.proofs.Tests.{ifTest}

@@ -10,7 +10,7 @@ use Rattle.board.specs.declared.read.FastRead.{FastRead}
 use Rattle.conversions.specs.declared.convert.ToBus.{ToBus}
 use Rattle.conversions.specs.declared.convert.ToCpu.{ToCpu}
 use Rattle.card_used.specs.declared.used.CardUsed.{CardUsed}
-use Rattle.image.specs.declared.check.Verdict.{Verdict}
+use Rattle.refusals.specs.declared.verdict.Verdict.{Verdict}
 use Rattle.reference.specs.declared.Answer.{Answer}
 
 -- numbers other than 0 refuse

@@ -11,12 +11,12 @@ use Rattle.board.specs.Statuses.{successful, funcNotSupported, bufferTooSmall}
 use Rattle.window.specs.Window.{Window}
 use Rattle.window_list.specs.Windows.{listOf}
 use Rattle.window_listing.specs.Listing.{listedNumber, listedValues}
-use Rattle.config.specs.Target.{target}
-use Rattle.config.specs.Read.{readOf, fastReadOf}
+use Rattle.config_read.specs.Target.{target}
+use Rattle.config_read.specs.Read.{readOf, fastReadOf}
 use Rattle.config.specs.Write.{written}
 use Rattle.search.specs.Search.{devices, classes, searchNumber}
-use Rattle.config.specs.declared.target.Target.{Target}
-use Rattle.config.specs.declared.target.Target.the-variants.{Function, Refused}
+use Rattle.config_read.specs.declared.target.Target.{Target}
+use Rattle.config_read.specs.declared.target.Target.the-variants.{Function, Refused}
 use Rattle.data_cells.specs.Cells.{cellsAfter}
 use Rattle.conversions.specs.Convert.{toCpu, toBus}
 use Rattle.access.specs.Data.{readAt, fastReadAt}
@@ -34,9 +34,9 @@ use Rattle.chain_listing.specs.Listing.{chainNumber, chainValues}
 use Rattle.card_used.specs.Used.{Mark, newMark, usedOf, setChecks}
 use Rattle.cells.specs.Cells.{cellsBefore, total, zeroed}
 use Rattle.image_format.specs.Image.{imageSize, countOf, recordsOf, sum, trailer}
-use Rattle.image.specs.Refusals.{Facts, imageMax, refused, firstRefusal}
+use Rattle.refusals.specs.Refusals.{Facts, imageMax, refused, firstRefusal}
 use Rattle.image.specs.Check.{facts}
-use Rattle.image.specs.declared.check.Verdict.{Verdict}
+use Rattle.refusals.specs.declared.verdict.Verdict.{Verdict}
 use Rattle.reference.specs.declared.Answer.{Answer}
 use Rattle.reference.specs.declared.Call.{Call}
 use Rattle.reference.specs.declared.Call.the-variants.{Load, Reset, WriteImage, FindPciDevice, FindPciClasscode, ReadConfig, FastReadConfig, WriteConfig, ReadData, FastReadData, WriteData, BusToCpu, CpuToBus, GetResource, HookInterrupt, UnhookInterrupt, ListChain, GetCardUsed, SetCardUsed, SpecialCycle, GetRouting, SetInterrupt, ListWindow}

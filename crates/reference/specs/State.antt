@@ -8,7 +8,7 @@ use Rattle.board.specs.Layout.{registerByte}
 use Rattle.numbers.specs.Numbers.{bytes}
 use Rattle.window.specs.Kept.{unpacked}
 use Rattle.window_listing.specs.Listing.{listing, numberOf, valuesOf}
-use Rattle.config.specs.Read.{readConfig, fastReadConfig}
+use Rattle.config_read.specs.Read.{readConfig, fastReadConfig}
 use Rattle.search.specs.Search.{devices, classes, searched, foundNumber}
 use Rattle.config.specs.Write.{writeConfig}
 use Rattle.conversions.specs.Convert.{busToCpu, cpuToBus}

@@ -1,6 +1,6 @@
 -- `write_config`: the target decides; the bytes are written, and the list worked out anew where it depends on one of them.
 use mathlib.Core.Path.{sym, _∙_}
-use Rattle.config.proofs.Targets.{inside-registers}
+use Rattle.config_read.proofs.Targets.{inside-registers}
 use borrow.Author.Needs.{needs}
 use Rattle.config.proofs.write.write_config.Statement.{statement}
 use Rattle.config.proofs.write.write_config.Tie as tie

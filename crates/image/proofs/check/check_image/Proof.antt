@@ -3,7 +3,7 @@ use mathlib.Core.Path.{_∙_}
 use native.Mathlib.Omega.{arith}
 use lib.ListN.{length}
 use borrow.Author.Tests.{lt-ltb, le-ltb}
-use Rattle.image.specs.Refusals.{imageMax}
+use Rattle.refusals.specs.Refusals.{imageMax}
 use Rattle.image.specs.Check.{checked}
 use borrow.Author.Needs.{needs}
 use Rattle.image.proofs.check.check_image.Statement.{statement}

@@ -7,7 +7,7 @@ use native.Mathlib.Nat.{sub-zero}
 use borrow.Author.Tests.{not-true, not-false}
 use Rattle.record.specs.Record.{recordOk}
 use Rattle.image_format.specs.Image.{recordAt}
-use Rattle.image.specs.Refusals.{firstBad}
+use Rattle.refusals.specs.Refusals.{firstBad}
 use borrow.Author.Needs.{needs}
 use Rattle.image.proofs.check.first_bad.Statement.{statement}
 use Rattle.image.proofs.check.first_bad.Tie as tie

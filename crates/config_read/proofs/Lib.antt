@@ -1,0 +1,3 @@
+-- The laws that proofs here and above cite.
+pub mod Targets
+pub mod Fast

@@ -1,0 +1,24 @@
+-- What the checks and configuration reads mean, without the proofs.
+use Prim.Native.Nat.{ℕ, _+_, _-_, _^_, _≤_}
+use mathlib.Core.Bool.{Bool, true, false}
+use mathlib.Core.List.{List}
+use mathlib.Core.Logic.{_↔_}
+use mathlib.Core.Path.{_≡_}
+use Rattle.board.specs.Layout.{registersEach}
+use Rattle.board.specs.Statuses.{successful}
+use Rattle.config_read.specs.declared.target.Target.the-variants.{Function}
+use Rattle.config_read.specs.Target.{target}
+use Rattle.config_read.specs.Read.{readConfig, fastReadConfig}
+
+-- no accepted access passes FFh
+abbrev pub InsideRegisters : Type 0
+InsideRegisters = (good : Bool) (w handle register i : ℕ) → target good w handle register ≡ Function i → register + w ≤ registersEach
+
+-- an accepted fast read equals the plain read; a refused one is refused as the plain read is, and gives all ones of its width
+abbrev pub FastRead : Type 0
+FastRead =
+    (w : ℕ) (header registers : List ℕ) (handle register : ℕ)
+    → ((fastReadConfig w header registers handle register .fault ≡ false) ↔ (readConfig w header registers handle register .status ≡ successful))
+    × ((fastReadConfig w header registers handle register .fault ≡ false
+    → fastReadConfig w header registers handle register .value ≡ readConfig w header registers handle register .value)
+    × (fastReadConfig w header registers handle register .fault ≡ true → fastReadConfig w header registers handle register .value ≡ 256 ^ w - 1))

@@ -1,0 +1,3 @@
+-- The definitions that contracts cite.
+pub mod Refusals
+pub mod Steps

@@ -1,0 +1,68 @@
+// The verdict of a check: what needs no bytes of the image.
+use board::layout::FUNCTIONS;
+use board::layout::RECORD;
+use image_format::sum::TRAILER;
+ghost use mathlib.Core.Path.{_≡_};
+ghost use Prim.Native.Nat.{_≤_};
+ghost use Rattle.board.specs.Layout.{functionsMax};
+ghost use Rattle.image_format.specs.Image.{imageSize};
+ghost use Rattle.refusals.specs.Steps.{formRefusal, cellsVerdict};
+
+// Bytes of all cells at most.
+pub const CELLS: u32 = 65536;
+
+// The number of the first refusal that applies, 0 for none; with 6 the place of the first bad record, else 0.
+pub struct Verdict {
+    pub number: u8,
+    pub place: u32,
+}
+
+// A verdict that names no record.
+pub fn plain(number: u8) -> Verdict
+    ensures { λ r. ⌜ r ≡ record { number = number; place = 0 } ⌝ }
+{
+    Verdict {
+        number: number,
+        place: 0,
+    }
+}
+
+// Refusals 1 to 4, of the length and the trailer's numbers; 0 for none.
+pub fn form_refusal(long: usize, edition: u32, count: u32, distance: u32) -> u8
+    ensures { λ r. ⌜ r ≡ formRefusal long edition count distance ⌝ }
+    ensures { λ r. ⌜ (r ≡ 0 → (count ≤ functionsMax) × (imageSize count ≤ long)) ⌝ }
+{
+    if long < TRAILER {
+        return 1;
+    }
+    if edition != 1 {
+        return 2;
+    }
+    if count == 0 {
+        return 3;
+    }
+    if (FUNCTIONS as u32) < count {
+        return 3;
+    }
+    let size = RECORD * count as usize + TRAILER;
+    if (distance as usize) != size {
+        return 4;
+    }
+    if long < size {
+        return 4;
+    }
+    0
+}
+
+// Refusals 7 and 8.
+pub fn cells_verdict(total: u32, room: usize) -> Verdict
+    ensures { λ r. ⌜ r ≡ cellsVerdict total room ⌝ }
+{
+    if CELLS < total {
+        return plain(7);
+    }
+    if room < total as usize {
+        return plain(8);
+    }
+    plain(0)
+}
