@@ -8,7 +8,8 @@ use Rattle.config_read.specs.Target.{target}
 use Rattle.search.specs.Search.{matching, searchNumber}
 use Rattle.find_window.specs.Find.{inList, find}
 use Rattle.descriptor.specs.Descriptor.{descriptorBytes, bytesOf}
-use Rattle.resource.specs.Resource.{windowsFrom, startIn, described, resource}
+use Rattle.shown_start.specs.Start.{startIn}
+use Rattle.resource.specs.Resource.{windowsFrom, described, resource}
 use Rattle.chain_listing.specs.Listing.{placeNumber, placeValues}
 use Rattle.interrupt.specs.Meaning.{isAmong}
 use Rattle.window_entry.specs.Entry.{entryOk}

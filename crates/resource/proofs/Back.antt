@@ -2,8 +2,8 @@
 use Prim.Native.Nat.{ℕ, _+_, _-_, _^_, _<_}
 use native.Mathlib.Omega.{arith}
 use native.Mathlib.Nat.{add-zero, mod-eq-of-lt}
-use mathlib.Core.Bool.{Bool, true, false, cond}
-use mathlib.Core.List.{List, [], _∷_, _++_, append-assoc}
+use mathlib.Core.Bool.{Bool, true, false}
+use mathlib.Core.List.{List, [], _++_, append-assoc}
 use mathlib.Core.Path.{_≡_, refl, _∙_}
 use lib.Dec.{eqb, leb}
 use lib.ListN.{length, length-append}
@@ -13,11 +13,11 @@ use Rattle.board.specs.Layout.{exponent}
 use Rattle.numbers.specs.Numbers.{byteAt, big, bigBytes}
 use Rattle.numbers.proofs.Numbers.{big-bytes, big-below}
 use Rattle.numbers.proofs.Tables.{table-length}
-use Rattle.window.specs.Kept.{unpack, unpacked}
 use Rattle.window.specs.Window.{spaceOf}
 use Rattle.descriptor.specs.declared.descriptor.Descriptor.{Descriptor}
 use Rattle.descriptor.specs.Descriptor.{flags, descriptorBytes, fieldsAt}
-use Rattle.resource.specs.Resource.{isWindow, isOf, startIn, descriptorOf, sourceOf}
+use Rattle.resource.specs.Resource.{isWindow, descriptorOf, sourceOf}
+use Rattle.shown_start.proofs.Starts.{start-small}
 use Rattle.descriptor.proofs.Fields.{shown-small}
 use Rattle.resource.proofs.Turns.{window-small}
 
@@ -60,22 +60,6 @@ fields-back d small before after =
     let f₅ : big 4 (byteAt l) (n + 16) ≡ d .dmaoffset =
     field 4 (d .dmaoffset) 16 l before (a ++ (b ++ (c ++ (e ++ f)))) after (small .dmaoffset) (simp (length-append, table-length)) (simp append-assoc) in
     rw (rw (add-zero n) at f₀, f₁, f₂, f₃, f₄, f₅)
-
--- a start in a kept list has 32 bits
-chosen-small : (o c : Bool) (x y : ℕ) → x < 2 ^ 32 → y < 2 ^ 32 → cond o (cond c 0 x) y < 2 ^ 32
-chosen-small true true x y h k = omega arith
-chosen-small true false x y h k = h
-chosen-small false c x y h k = k
-
-start-small : (l : List ℕ) (handle b : ℕ) → startIn (unpacked l) handle b < 2 ^ 32
-unfolding unpacked startIn
-start-small [] handle b = omega arith
-start-small (n ∷ l) handle b =
-    by (eqb (unpack n .length) 0) (chosen-small (isOf handle b (unpack n)) (unpack n .contested) (unpack n .start) _ (omega arith) (start-small l handle b))
-  where
-    by : (z : Bool) → startIn (unpack n ∷ unpacked l) handle b < 2 ^ 32 → startIn (cond z [] (unpack n ∷ unpacked l)) handle b < 2 ^ 32
-    by true h = omega arith
-    by false h = h
 
 -- flags have 16 bits, the highest set by the last mark alone
 flags-small : (last io : Bool) (widths order : ℕ) → flags last io widths order < 2 ^ 16

@@ -1,44 +1,22 @@
--- Turns of the loops: through the kept list at place j, and through the base registers at b.
-use Prim.Native.Nat.{ℕ, zero, suc, _+_, _-_, _*_, _/_, _%_, _^_, _<_, _≤_}
+-- Turns of the loops through the base registers at b.
+use Prim.Native.Nat.{ℕ, zero, suc, _+_, _-_, _*_, _<_, _≤_}
 use native.Mathlib.Omega.{arith}
 use mathlib.Core.Bool.{Bool, true, false, cond}
 use mathlib.Core.List.{List, [], _∷_}
 use mathlib.Core.Path.{_≡_, refl, sym, _∙_}
 use lib.Dec.{eqb, leb}
-use lib.ListN.{length, getD, drop}
+use lib.ListN.{length}
 use lib.Seq.{sets}
 use borrow.Author.Tests.{eq-eqb, ne-eqb, leb-true}
 use Rattle.numbers.proofs.Tests.{both-true}
 use Rattle.board.specs.Layout.{bases}
-use Rattle.window.specs.Kept.{unpack, unpacked}
-use Rattle.window.proofs.Unpacked.{unpacked-none, unpacked-one, unpacked-end}
 use Rattle.descriptor.specs.Descriptor.{size, descriptorBytes, bytesOf}
-use Rattle.resource.specs.Resource.{isWindow, windowsFrom, isOf, shownStart, startIn, Source, descriptorOf, described}
+use Rattle.resource.specs.Resource.{isWindow, windowsFrom, Source, descriptorOf, described}
 use Rattle.descriptor.proofs.Fields.{after, bytes-size}
 
 -- the exponent of a window
 pub window-small : (k : ℕ) → isWindow k ≡ true → k ≤ 16
 window-small k e = leb-true k 16 (both-true (leb 2 k) _ e .1)
-
-module _ (handle b : ℕ) (l : List ℕ) (j : ℕ) where
-  -- the number there is no window, the window of the base register, another window; or there is none
-  pub start-none : j < length l → getD l j 0 / 2 % 2 ^ 17 ≡ 0 → startIn (unpacked (drop j l)) handle b ≡ 0
-  unfolding startIn
-  start-none h z = rw (unpacked-none l j h z)
-
-  pub start-here : j < length l → (getD l j 0 / 2 % 2 ^ 17 ≡ 0 → ⊥) → isOf handle b (unpack (getD l j 0)) ≡ true
-      → startIn (unpacked (drop j l)) handle b ≡ shownStart (unpack (getD l j 0))
-  unfolding startIn
-  start-here h n t = rw (unpacked-one l j h n, t)
-
-  pub start-on : j < length l → (getD l j 0 / 2 % 2 ^ 17 ≡ 0 → ⊥) → isOf handle b (unpack (getD l j 0)) ≡ false
-      → startIn (unpacked (drop j l)) handle b ≡ startIn (unpacked (drop (j + 1) l)) handle b
-  unfolding startIn
-  start-on h n t = rw (unpacked-one l j h n, t)
-
-  pub start-end : length l ≤ j → startIn (unpacked (drop j l)) handle b ≡ 0
-  unfolding startIn
-  start-end h = rw (unpacked-end l j h)
 
 module _ (k : ℕ → ℕ) (b : ℕ) where
   -- base register b has a window, or has none; or there is none

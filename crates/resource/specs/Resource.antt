@@ -11,6 +11,7 @@ use Rattle.board.specs.Statuses.{successful, bufferTooSmall, generalError, badH
 use Rattle.board.specs.declared.status.Status.{Status}
 use Rattle.window.specs.Kept.{unpacked}
 use Rattle.window.specs.Window.{Window, spaceOf}
+use Rattle.shown_start.specs.Start.{startIn}
 use Rattle.descriptor.specs.declared.descriptor.Descriptor.{Descriptor}
 use Rattle.descriptor.specs.Descriptor.{size, flags, bytesOf}
 
@@ -25,18 +26,6 @@ windowsFrom k (suc n) b = cond (isWindow (k b)) (b ∷ windowsFrom k n (b + 1)) 
 
 abbrev pub windowBases : (ℕ → ℕ) → List ℕ
 windowBases k = windowsFrom k bases 0
-
-abbrev pub isOf : ℕ → ℕ → Window → Bool
-isOf handle b w = eqb (w .handle) handle && eqb (w .base) b
-
--- start is 0 when contested
-abbrev pub shownStart : Window → ℕ
-shownStart w = cond (w .contested) 0 (w .start)
-
--- and when closed: the window of base register b is not in the list
-unfoldable pub startIn : List Window → ℕ → ℕ → ℕ
-startIn [] handle b = 0
-startIn (w ∷ l) handle b = cond (isOf handle b w) (shownStart w) (startIn l handle b)
 
 -- what a function's descriptors are made of: its handle, the window list, and by base register the length exponent, byte order, widths and current value
 pub record Source : Type 0 where

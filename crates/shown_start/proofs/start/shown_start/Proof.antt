@@ -2,8 +2,8 @@
 use mathlib.Core.Path.{sym, _∙_}
 use borrow.Author.Tests.{not-true, not-false}
 use borrow.Author.Needs.{needs}
-use Rattle.resource.proofs.resource.shown_start.Statement.{statement}
-use Rattle.resource.proofs.resource.shown_start.Tie as tie
+use Rattle.shown_start.proofs.start.shown_start.Statement.{statement}
+use Rattle.shown_start.proofs.start.shown_start.Tie as tie
 
 is-contested-requires : tie.Need-is-contested-requires
 is-contested-requires c κs = search needs

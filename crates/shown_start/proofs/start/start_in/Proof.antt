@@ -3,11 +3,11 @@ use Prim.Native.Nat.{_-_}
 use mathlib.Core.Path.{_≡_, refl, sym, _∙_}
 use lib.ListN.{length, drop}
 use Rattle.window.specs.Kept.{unpacked}
-use Rattle.resource.specs.Resource.{startIn}
-use Rattle.resource.proofs.Turns.{start-none, start-here, start-on, start-end}
+use Rattle.shown_start.specs.Start.{startIn}
+use Rattle.shown_start.proofs.Starts.{start-none, start-here, start-on, start-end}
 use borrow.Author.Needs.{needs}
-use Rattle.resource.proofs.resource.start_in.Statement.{statement}
-use Rattle.resource.proofs.resource.start_in.Tie as tie
+use Rattle.shown_start.proofs.start.start_in.Statement.{statement}
+use Rattle.shown_start.proofs.start.start_in.Tie as tie
 
 abbrev Inv-loop : tie.InvT-loop
 Inv-loop list handle base j₀ j = startIn (unpacked (drop j list)) handle base ≡ startIn (unpacked list) handle base

@@ -1,7 +1,7 @@
 -- `is_of`: field by field.
 use borrow.Author.Needs.{needs}
-use Rattle.resource.proofs.resource.is_of.Statement.{statement}
-use Rattle.resource.proofs.resource.is_of.Tie as tie
+use Rattle.shown_start.proofs.start.is_of.Statement.{statement}
+use Rattle.shown_start.proofs.start.is_of.Tie as tie
 
 handle-of-requires : tie.Need-handle-of-requires
 handle-of-requires c κs = search needs
