@@ -10,14 +10,15 @@ use board::layout::Windows;
 use image::check::check_image;
 use image_writer::write::write_image;
 use load::calls::load;
-use load::calls::reset;
 use reference::Values;
+use reset::reset::reset;
 use window_listing::listing::list_window;
 ghost use mathlib.Core.Path.{_≡_};
 ghost use Rattle.board.specs.Parts.{parts};
 ghost use Rattle.window.specs.Kept.{unpacked};
 ghost use Rattle.image.specs.Check.{checked};
-ghost use Rattle.load.specs.Load.{loaded, load, resetTo, reset};
+ghost use Rattle.reset.specs.Reset.{resetTo, reset};
+ghost use Rattle.load.specs.Load.{loaded, load};
 ghost use Rattle.image_writer.specs.Write.{written, write};
 ghost use Rattle.bios.specs.Exports.{verdict, status, shown, shownWindow};
 

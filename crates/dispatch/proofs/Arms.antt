@@ -15,7 +15,8 @@ use Rattle.find_window.specs.declared.find.Space.{Space}
 use Rattle.resource.specs.Resource.{gave, getResource}
 use Rattle.interrupt.specs.Chain.{Changed, changed}
 use Rattle.card_used.specs.Used.{marked, setCardUsed}
-use Rattle.load.specs.Load.{loaded, load, resetTo, reset}
+use Rattle.reset.specs.Reset.{resetTo, reset}
+use Rattle.load.specs.Load.{loaded, load}
 use Rattle.image_writer.specs.Write.{written, write}
 use Rattle.refusals.specs.declared.verdict.Verdict.{Verdict}
 use Rattle.reference.specs.declared.Answer.{Answer}

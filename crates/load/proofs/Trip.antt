@@ -20,7 +20,8 @@ use Rattle.image_format.specs.Image.{imageSize, back, distanceOf, countOf, edit
 use Rattle.refusals.specs.Refusals.{accepted}
 use Rattle.refusals.specs.Steps.{cellsVerdict}
 use Rattle.image.specs.Check.{factsOf, checked}
-use Rattle.load.specs.Load.{Loaded, loaded, load, padded, restarted, installed}
+use Rattle.reset.specs.Reset.{restarted}
+use Rattle.load.specs.Load.{Loaded, loaded, load, padded, installed}
 use Rattle.image_writer.specs.Write.{Written, write, written}
 use Rattle.load.specs.Meaning.{rewritten, RoundTrip, WrittenBack, ImageAlone}
 use Rattle.refusals.specs.declared.verdict.Verdict.{Verdict}

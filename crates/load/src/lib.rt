@@ -1,4 +1,3 @@
-// Load and reset: the lent parts of a board made anew from an image, or from the loaded records.
+// Load: the lent parts of a board made anew from an image.
 pub mod calls;
 mod install;
-mod restart;

@@ -30,7 +30,8 @@ use Rattle.find_window.specs.declared.find.Space.{Space}
 use Rattle.data_cells.specs.declared.place.Place.{Place}
 use Rattle.data_cells.specs.declared.place.Place.the-variants.{At, Refused as NoPlace}
 use Rattle.image_format.specs.Image.{imageSize}
-use Rattle.load.specs.Load.{load, reset}
+use Rattle.reset.specs.Reset.{reset}
+use Rattle.load.specs.Load.{load}
 use Rattle.image_writer.specs.Write.{write}
 use Rattle.reference.specs.declared.Call.{Call}
 use Rattle.reference.specs.declared.Call.the-variants.{Load, Reset, WriteImage, FindPciDevice, FindPciClasscode, ReadConfig, FastReadConfig, WriteConfig, ReadData, FastReadData, WriteData, BusToCpu, CpuToBus, GetResource, HookInterrupt, UnhookInterrupt, ListChain, GetCardUsed, SetCardUsed, SpecialCycle, GetRouting, SetInterrupt, ListWindow}

@@ -17,7 +17,8 @@ use Rattle.card_used.specs.Used.{marksOf}
 use Rattle.cells.specs.Cells.{total, cellsBefore, offsetsOf}
 use Rattle.image_format.specs.Image.{imageSize, countOf, recordsOf, recordAt}
 use Rattle.image.specs.Check.{factsOf, checked}
-use Rattle.load.specs.Load.{padded, registersOf, restarted, installed}
+use Rattle.reset.specs.Reset.{registersOf, restarted}
+use Rattle.load.specs.Load.{padded, installed}
 use Rattle.cells.proofs.Ranges.{offset-at, before-same}
 use Rattle.image.proofs.Accepted.{accepted-image, records-length}
 use Rattle.reference.specs.Reference.{recordOf, exponentOf, joined, fresh, imageRecords, imageFacts, verdict}

@@ -15,9 +15,10 @@ use Rattle.window_list.proofs.KeptArray.{kept-of}
 use Rattle.window_listing.proofs.Answers.{number-is, values-are}
 use Rattle.cells.specs.Cells.{cellsBefore, total, offsetsOf}
 use Rattle.image_format.specs.Image.{imageSize, imageOf}
-use Rattle.load.specs.Load.{padded, load, reset}
+use Rattle.reset.specs.Reset.{reset}
+use Rattle.load.specs.Load.{padded, load}
 use Rattle.image_writer.specs.Write.{write}
-use Rattle.load.proofs.Lists.{zeroed-length}
+use Rattle.reset.proofs.Zeroed.{zeroed-length}
 use Rattle.cells.proofs.Ranges.{offset-at}
 use Rattle.reference.specs.declared.Call.{Call}
 use Rattle.reference.specs.declared.Call.the-variants.{Load, Reset, WriteImage, FindPciDevice, FindPciClasscode, ReadConfig, FastReadConfig, WriteConfig, ReadData, FastReadData, WriteData, BusToCpu, CpuToBus, GetResource, HookInterrupt, UnhookInterrupt, ListChain, GetCardUsed, SetCardUsed, SpecialCycle, GetRouting, SetInterrupt, ListWindow}

@@ -20,7 +20,8 @@ use Rattle.interrupt.specs.Chain.{hookInterrupt, unhookInterrupt}
 use Rattle.chain_listing.specs.Listing.{chainListing, chainNumberOf, chainValuesOf}
 use Rattle.card_used.specs.Used.{getCardUsed, setCardUsed}
 use Rattle.unsupported.specs.Unsupported.{specialCycle, getRouting, setInterrupt}
-use Rattle.load.specs.Load.{load, reset}
+use Rattle.reset.specs.Reset.{reset}
+use Rattle.load.specs.Load.{load}
 use Rattle.image_writer.specs.Write.{write}
 use Rattle.reference.specs.declared.Answer.{Answer}
 use Rattle.reference.specs.declared.Call.{Call}

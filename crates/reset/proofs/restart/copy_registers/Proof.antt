@@ -5,11 +5,11 @@ use lib.ListN.{length, take, length-set}
 use Rattle.numbers.specs.Tables.{tableFrom, table}
 use Rattle.board.specs.Layout.{functionsMax, registersEach, recordByte}
 use Rattle.numbers.proofs.Tables.{filled-more, filled-all}
-use Rattle.load.specs.Load.{registersOf}
+use Rattle.reset.specs.Reset.{registersOf}
 use borrow.Author.Needs.{needs}
 use native.Mathlib.Omega.{arith}
-use Rattle.load.proofs.restart.copy_registers.Statement.{statement}
-use Rattle.load.proofs.restart.copy_registers.Tie as tie
+use Rattle.reset.proofs.restart.copy_registers.Statement.{statement}
+use Rattle.reset.proofs.restart.copy_registers.Tie as tie
 
 abbrev Inv-loop : tie.InvT-loop
 Inv-loop records registers₀ j₀ registers j =

@@ -1,9 +1,9 @@
 -- `reset`: refused before anything is written, else restarted.
 use borrow.Author.Tests.{lt-ltb, le-ltb}
-use Rattle.load.specs.Load.{reset}
+use Rattle.reset.specs.Reset.{reset}
 use borrow.Author.Needs.{needs}
-use Rattle.load.proofs.calls.reset.Statement.{statement}
-use Rattle.load.proofs.calls.reset.Tie as tie
+use Rattle.reset.proofs.reset.reset.Statement.{statement}
+use Rattle.reset.proofs.reset.reset.Tie as tie
 
 u32-at-requires : tie.Need-u32-at-requires
 u32-at-requires c κs = search needs

@@ -21,7 +21,7 @@ ghost use lib.ListN.{length, getD};
 ghost use Rattle.board.specs.Layout.{functionsMax, registersEach, windowsMax};
 ghost use Rattle.board.specs.Parts.{parts};
 ghost use Rattle.cells.specs.Cells.{zeroed};
-ghost use Rattle.load.specs.Load.{registersOf, restarted};
+ghost use Rattle.reset.specs.Reset.{registersOf, restarted};
 
 // The reset values of all functions into the registers.
 fn copy_registers(records: &[u8], registers: &mut [u8])

@@ -1,8 +1,8 @@
 -- `restart`: each part as its step leaves it.
-use Rattle.load.specs.Load.{restarted}
+use Rattle.reset.specs.Reset.{restarted}
 use borrow.Author.Needs.{needs}
-use Rattle.load.proofs.restart.restart.Statement.{statement}
-use Rattle.load.proofs.restart.restart.Tie as tie
+use Rattle.reset.proofs.restart.restart.Statement.{statement}
+use Rattle.reset.proofs.restart.restart.Tie as tie
 
 copy-registers-requires : tie.Need-copy-registers-requires
 copy-registers-requires c κs = search needs

@@ -4,11 +4,11 @@ use mathlib.Core.Path.{_≡_, refl, _∙_, ap}
 use native.Mathlib.Numerals.{add-one}
 use lib.ListN.{length}
 use Rattle.cells.specs.Cells.{zeroed}
-use Rattle.load.proofs.Lists.{zeroed-more, zeroed-length}
+use Rattle.reset.proofs.Zeroed.{zeroed-more, zeroed-length}
 use borrow.Author.Needs.{needs}
 use native.Mathlib.Omega.{arith}
-use Rattle.load.proofs.restart.clear.Statement.{statement}
-use Rattle.load.proofs.restart.clear.Tie as tie
+use Rattle.reset.proofs.restart.clear.Statement.{statement}
+use Rattle.reset.proofs.restart.clear.Tie as tie
 
 abbrev Inv-loop : tie.InvT-loop
 Inv-loop cells₀ n i₀ cells i = (i ≤ n) × (cells ≡ zeroed i cells₀)
