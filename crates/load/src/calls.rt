@@ -33,6 +33,7 @@ pub fn load(
         return verdict;
     }
     install(image, header, records, offsets);
+    // The check has found the cells to suffice, so the reset is not refused.
     let _ = reset(
         header,
         records,
