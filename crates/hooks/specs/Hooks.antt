@@ -2,7 +2,7 @@
 use Prim.Native.Nat.{ℕ, zero, suc, _+_, _*_, _-_, _/_, _%_}
 use mathlib.Core.Bool.{Bool, cond, _&&_, not}
 use mathlib.Core.List.{List, [], _∷_}
-use lib.Dec.{eqb}
+use lib.Dec.{eqb, leb}
 use lib.ListN.{getD}
 use Rattle.board.specs.Layout.{functionsMax, hookSize, recordByte}
 use Rattle.numbers.specs.Tables.{table, filledUp}
@@ -54,6 +54,10 @@ pinOf records handle = recordByte records (handle - 1) 0x3D
 
 abbrev pub lastLine : ℕ
 lastLine = 15
+
+-- whether a function interrupts at all, on a line that there is
+abbrev pub isRouted : ℕ → ℕ → Bool
+isRouted pin line = leb 1 pin && leb line lastLine
 
 -- those hooks of a list that pass a test, in their order
 unfoldable pub chosen : (Hook → Bool) → List Hook → List Hook

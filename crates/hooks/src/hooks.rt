@@ -7,7 +7,7 @@ use numbers::number::u32_at;
 ghost use mathlib.Core.Path.{_≡_};
 ghost use Prim.Native.Nat.{_-_};
 ghost use Rattle.board.specs.Layout.{recordByte};
-ghost use Rattle.hooks.specs.Hooks.{hookAt, lineOf, pinOf, onLine};
+ghost use Rattle.hooks.specs.Hooks.{hookAt, lineOf, pinOf, isRouted, onLine};
 
 // The registers that say how a function interrupts.
 const LINE: u32 = 0x3C;
@@ -58,10 +58,17 @@ pub fn line_of(records: &Records, handle: u32) -> u32
 }
 
 // Its loaded pin.
-pub fn pin_of(records: &Records, handle: u32) -> u32
+fn pin_of(records: &Records, handle: u32) -> u32
     ensures { λ r. ⌜ r ≡ pinOf (now (records .entry)) handle ⌝ }
 {
     loaded(records, handle, PIN)
+}
+
+// Whether a function interrupts at all, on a line that there is.
+pub fn is_routed(records: &Records, handle: u32) -> bool
+    ensures { λ r. ⌜ r ≡ isRouted (pinOf (now (records .entry)) handle) (lineOf (now (records .entry)) handle) ⌝ }
+{
+    (1 <= pin_of(records, handle)) & (line_of(records, handle) <= LAST_LINE)
 }
 
 // Whether an entry is a hook on a line.

@@ -13,8 +13,8 @@ use Rattle.board.specs.Statuses.{successful}
 use Rattle.board.specs.declared.status.Status.{Status}
 use Rattle.board.proofs.Handles.{handle-place}
 use Rattle.numbers.proofs.Tests.{both-true}
-use Rattle.hooks.specs.Hooks.{Hook, hook, isHook, hookAt, entriesFrom, chosen, onLine, chainOf, lineOf, pinOf}
-use Rattle.interrupt.specs.Chain.{upToLine, placeFor, isHooked, isRouted, isFree, hooked, changed, hookChecks}
+use Rattle.hooks.specs.Hooks.{Hook, hook, isHook, hookAt, entriesFrom, chosen, onLine, chainOf, lineOf, pinOf, isRouted}
+use Rattle.interrupt.specs.Chain.{upToLine, placeFor, isHooked, isFree, hooked, changed, hookChecks}
 use Rattle.interrupt.specs.Meaning.{GoesLast}
 use Rattle.interrupt.proofs.Entries.{chosen-append, chosen-none, chosen-in, chosen-out, chosen-last-out}
 use Rattle.interrupt.proofs.Places.{Last, past-last}

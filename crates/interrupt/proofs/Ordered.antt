@@ -12,8 +12,8 @@ use Rattle.board.specs.Layout.{functionsMax, hookSize}
 use Rattle.board.specs.Statuses.{successful}
 use Rattle.board.proofs.Handles.{handle-place}
 use Rattle.numbers.proofs.Tables.{table-length}
-use Rattle.hooks.specs.Hooks.{Hook, entriesFrom, chosen, onLine, chainOf, lineOf, pinOf}
-use Rattle.interrupt.specs.Chain.{Changed, changed, isHooked, isRouted, isFree, hooked, unhooked, hookChecks, unhookChecks}
+use Rattle.hooks.specs.Hooks.{Hook, entriesFrom, chosen, onLine, chainOf, lineOf, pinOf, isRouted}
+use Rattle.interrupt.specs.Chain.{Changed, changed, isHooked, isFree, hooked, unhooked, hookChecks, unhookChecks}
 use Rattle.interrupt.specs.Meaning.{without, Asked, told, hooking, unhooking, cleared, isDone, taken, arrayAfter, inOrder, HookingOrder}
 use Rattle.interrupt.proofs.Entries.{chosen-append, chosen-in, chosen-out}
 use Rattle.interrupt.proofs.Hooking.{new-on, accepted, goes-last}

@@ -7,7 +7,7 @@ use Rattle.board.specs.Handles.{isHandle}
 use Rattle.board.specs.Layout.{functionsMax}
 use Rattle.board.specs.Statuses.{successful, setFailed, generalError, badHandle}
 use Rattle.board.specs.declared.status.Status.{Status}
-use Rattle.hooks.specs.Hooks.{Hook, hook, isHook, hookAt, arrayOf, lineOf, pinOf, lastLine}
+use Rattle.hooks.specs.Hooks.{Hook, hook, isHook, hookAt, arrayOf, lineOf, pinOf, isRouted}
 
 -- one past the last of the first n places at which a test holds, 0 where there is none
 unfoldable pub pastLast : (ℕ → Bool) → ℕ → ℕ
@@ -41,9 +41,6 @@ abbrev pub afterUnhook : (ℕ → Hook) → ℕ → ℕ → Hook
 afterUnhook old place e = cond (ltb e place) (old e) (old (e + 1))
 
 -- hook: -9; -8 pin 0 or line not 0..15; -6. On an altered board the array may be full, and gives -6 too
-abbrev pub isRouted : ℕ → ℕ → Bool
-isRouted pin line = leb 1 pin && leb line lastLine
-
 abbrev pub isFree : List ℕ → ℕ → Bool
 isFree hooks handle = not (isHooked hooks handle) && eqb (hookAt hooks (functionsMax - 1) .handle) 0
 

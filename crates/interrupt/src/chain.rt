@@ -8,17 +8,16 @@ use board::layout::Header;
 use board::layout::Hooks;
 use board::layout::Records;
 use board::status::Status;
-use hooks::hooks::LAST_LINE;
 use hooks::hooks::handle_at;
+use hooks::hooks::is_routed;
 use hooks::hooks::line_of;
-use hooks::hooks::pin_of;
 use numbers::number::u32_at;
 ghost use mathlib.Core.Path.{_≡_};
 ghost use Prim.Native.Nat.{_*_, _≤_};
 ghost use lib.ListN.{length};
 ghost use Rattle.board.specs.Layout.{functionsMax, hookSize};
-ghost use Rattle.hooks.specs.Hooks.{hook, numberOf, numberAt, arrayOf, hookAt, lineOf, pinOf};
-ghost use Rattle.interrupt.specs.Chain.{isRouted, isFree, afterHook, afterUnhook, changed, hookInterrupt, unhookInterrupt};
+ghost use Rattle.hooks.specs.Hooks.{hook, numberOf, numberAt, arrayOf, hookAt};
+ghost use Rattle.interrupt.specs.Chain.{isFree, afterHook, afterUnhook, changed, hookInterrupt, unhookInterrupt};
 ghost use Rattle.interrupt.specs.Steps.{after};
 
 // What happens to the array: a hook comes in at a place, or the one there goes out.
@@ -32,13 +31,6 @@ pub(crate) enum Change {
     Out {
         place: usize,
     },
-}
-
-// Whether a function interrupts at all, on a line that there is.
-fn is_routed(records: &Records, handle: u32) -> bool
-    ensures { λ r. ⌜ r ≡ isRouted (pinOf (now (records .entry)) handle) (lineOf (now (records .entry)) handle) ⌝ }
-{
-    (1 <= pin_of(records, handle)) & (line_of(records, handle) <= LAST_LINE)
 }
 
 // Whether a function has no hook yet, and there is room for one more: there always is where each function has one hook at most.

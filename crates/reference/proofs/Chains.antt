@@ -7,8 +7,8 @@ use lib.Dec.{leb, ltb}
 use borrow.Author.Tests.{leb-true, ltb-false, not-true}
 use Rattle.board.specs.Parts.{withHooks}
 use Rattle.numbers.proofs.Tests.{both-true}
-use Rattle.hooks.specs.Hooks.{Hook, hook, lineOf, pinOf, lastLine, chainOf, packed}
-use Rattle.interrupt.specs.Chain.{isRouted, Changed}
+use Rattle.hooks.specs.Hooks.{Hook, hook, lineOf, pinOf, lastLine, isRouted, chainOf, packed}
+use Rattle.interrupt.specs.Chain.{Changed}
 use Rattle.chain_listing.specs.Listing.{listed, chainListing, chainNumberOf, chainValuesOf}
 use Rattle.interrupt.specs.Meaning.{without}
 use Rattle.chain_listing.specs.declared.listing.ChainListing.{ChainListing}

@@ -10,8 +10,8 @@ use Rattle.board.specs.Parts.{Parts, withHooks, withUsed}
 use Rattle.board.specs.Handles.{isHandle}
 use Rattle.descriptor.specs.Descriptor.{size}
 use Rattle.resource.specs.Resource.{Gave, windowBases, resource, sourceOf}
-use Rattle.hooks.specs.Hooks.{Hook, lineOf, pinOf, lastLine, chainOf}
-use Rattle.interrupt.specs.Chain.{Changed, isRouted, isHooked, isFree}
+use Rattle.hooks.specs.Hooks.{Hook, lineOf, pinOf, lastLine, isRouted, chainOf}
+use Rattle.interrupt.specs.Chain.{Changed, isHooked, isFree}
 use Rattle.chain_listing.specs.Listing.{listed, chainNumberOf, chainValuesOf}
 use Rattle.card_used.specs.Used.{Marked}
 use Rattle.chain_listing.specs.declared.listing.ChainListing.{ChainListing}

@@ -16,8 +16,7 @@ use Rattle.find_window.specs.declared.find.Finding.{Finding}
 use Rattle.find_window.specs.declared.find.Finding.the-variants.{Found, BadHandle, ShortCells, NotAligned, Nothing, Contested, WidthMissing}
 use Rattle.data_cells.specs.declared.place.Place.{Place}
 use Rattle.data_cells.specs.declared.place.Place.the-variants.{At, Refused as NoPlace}
-use Rattle.hooks.specs.Hooks.{Hook}
-use Rattle.interrupt.specs.Chain.{isRouted}
+use Rattle.hooks.specs.Hooks.{Hook, isRouted}
 use Rattle.interrupt.specs.Meaning.{isAmong}
 use Rattle.card_used.specs.Used.{Mark}
 use Rattle.cells.specs.Cells.{total}

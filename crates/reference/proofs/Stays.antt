@@ -15,8 +15,7 @@ use Rattle.numbers.proofs.Stores.{sets-other}
 use Rattle.descriptor.specs.Descriptor.{size, bytesOf}
 use Rattle.resource.specs.Resource.{Gave, windowBases, descriptors, resource}
 use Rattle.resource.proofs.Shows.{described-size}
-use Rattle.hooks.specs.Hooks.{Hook}
-use Rattle.interrupt.specs.Chain.{isRouted}
+use Rattle.hooks.specs.Hooks.{Hook, isRouted}
 use Rattle.interrupt.specs.Meaning.{isAmong}
 use Rattle.card_used.specs.Used.{Mark, markNumber}
 use Rattle.reference.specs.declared.Answer.{Answer}

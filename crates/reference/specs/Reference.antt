@@ -27,8 +27,8 @@ use Rattle.find_window.specs.declared.find.Finding.the-variants.{Found, BadHand
 use Rattle.data_cells.specs.declared.place.Place.{Place}
 use Rattle.data_cells.specs.declared.place.Place.the-variants.{At, Refused as NoPlace}
 use Rattle.resource.specs.Resource.{Source, resource}
-use Rattle.hooks.specs.Hooks.{Hook, hook}
-use Rattle.interrupt.specs.Chain.{isRouted, hookChecks, unhookChecks}
+use Rattle.hooks.specs.Hooks.{Hook, hook, isRouted}
+use Rattle.interrupt.specs.Chain.{hookChecks, unhookChecks}
 use Rattle.interrupt.specs.Meaning.{isAmong, without}
 use Rattle.chain_listing.specs.Listing.{chainNumber, chainValues}
 use Rattle.card_used.specs.Used.{Mark, newMark, usedOf, setChecks}

@@ -1,7 +1,7 @@
 -- `is_routed`: the two tests are the definition.
 use borrow.Author.Needs.{needs}
-use Rattle.interrupt.proofs.chain.is_routed.Statement.{statement}
-use Rattle.interrupt.proofs.chain.is_routed.Tie as tie
+use Rattle.hooks.proofs.hooks.is_routed.Statement.{statement}
+use Rattle.hooks.proofs.hooks.is_routed.Tie as tie
 
 pin-of-requires : tie.Need-pin-of-requires
 pin-of-requires c κs = search needs
