@@ -7,7 +7,7 @@ use mathlib.Core.Path.{_≡_, refl, _∙_, ap}
 use borrow.Author.Tests.{lt-ltb, le-ltb, eq-eqb, ne-eqb}
 use Rattle.board.specs.Layout.{functionsMax}
 use Rattle.hooks.specs.Hooks.{Hook, hookAt, entriesFrom, entries, arrayOf}
-use Rattle.interrupt.specs.Chain.{afterHook, afterUnhook}
+use Rattle.hook_changes.specs.Changes.{afterHook, afterUnhook}
 use Rattle.interrupt.proofs.Entries.{array-at, entries-same, entries-split}
 
 module _ (f : ℕ → Hook) (p : ℕ) where

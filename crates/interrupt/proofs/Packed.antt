@@ -14,7 +14,8 @@ use Rattle.numbers.proofs.Tables.{table-length, table-get}
 use Rattle.hooks.specs.Hooks.{Hook, noHook, hookAt, entriesFrom, entries, numberAt, arrayOf, lineOf, chosen, onLine, chainOf, numbers, packed}
 use Rattle.interrupt.specs.Chain.{firstFrom, isHooked, isFree}
 use Rattle.interrupt.specs.Meaning.{Every, isAmong}
-use Rattle.interrupt.proofs.Entries.{number-here, chosen-append}
+use Rattle.hook_changes.proofs.Numbers.{number-here}
+use Rattle.interrupt.proofs.Entries.{chosen-append}
 
 -- zeros hold no hook
 zero-at : (n j : ℕ) → getD (replicate {A = ℕ} n 0) j 0 ≡ 0

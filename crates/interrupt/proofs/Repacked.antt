@@ -10,7 +10,8 @@ use lib.Seq.{getD-append-add, getD-append-seam}
 use borrow.Author.Tests.{eq-eqb, ne-eqb, le-leb, lt-leb, ltb-true, ltb-false, eqb-true, eqb-false}
 use Rattle.board.specs.Layout.{functionsMax}
 use Rattle.hooks.specs.Hooks.{Hook, noHook, isHook, hookAt, lineOf, packed}
-use Rattle.interrupt.specs.Chain.{upToLine, placeFor, entryOf, afterHook, afterUnhook, hooked, unhooked}
+use Rattle.hook_changes.specs.Changes.{afterHook, afterUnhook}
+use Rattle.interrupt.specs.Chain.{upToLine, placeFor, entryOf, hooked, unhooked}
 use Rattle.interrupt.specs.Meaning.{Every}
 use Rattle.interrupt.proofs.Places.{past-is, first-is}
 use Rattle.interrupt.proofs.Moves.{hook-before, hook-here, hook-after, unhook-before, unhook-after}

@@ -8,6 +8,7 @@ use Rattle.board.specs.Layout.{functionsMax}
 use Rattle.board.specs.Statuses.{successful, setFailed, generalError, badHandle}
 use Rattle.board.specs.declared.status.Status.{Status}
 use Rattle.hooks.specs.Hooks.{Hook, hook, isHook, hookAt, arrayOf, lineOf, pinOf, isRouted}
+use Rattle.hook_changes.specs.Changes.{afterHook, afterUnhook}
 
 -- one past the last of the first n places at which a test holds, 0 where there is none
 unfoldable pub pastLast : (ℕ → Bool) → ℕ → ℕ
@@ -32,13 +33,6 @@ entryOf hooks handle = firstFrom (λ e. eqb (hookAt hooks e .handle) handle) 0 f
 
 abbrev pub isHooked : List ℕ → ℕ → Bool
 isHooked hooks handle = ltb (entryOf hooks handle) functionsMax
-
--- entries after a new one is put at a place, and after the one at a place is gone
-abbrev pub afterHook : (ℕ → Hook) → ℕ → Hook → ℕ → Hook
-afterHook old place new e = cond (ltb e place) (old e) (cond (eqb e place) new (old (e - 1)))
-
-abbrev pub afterUnhook : (ℕ → Hook) → ℕ → ℕ → Hook
-afterUnhook old place e = cond (ltb e place) (old e) (old (e + 1))
 
 -- hook: -9; -8 pin 0 or line not 0..15; -6. On an altered board the array may be full, and gives -6 too
 abbrev pub isFree : List ℕ → ℕ → Bool

@@ -1,4 +1,3 @@
 -- The definitions that contracts cite, and the statements about them.
 pub mod Chain
-pub mod Steps
 pub mod Meaning

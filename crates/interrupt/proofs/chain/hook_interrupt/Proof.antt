@@ -34,19 +34,19 @@ line-of-requires c κs = search needs
 place-for-requires : tie.Need-place-for-requires
 place-for-requires c κs = search needs
 
-cast-t18 : tie.Need-cast-t18
-cast-t18 c = search needs
+cast-t16 : tie.Need-cast-t16
+cast-t16 c = search needs
 
-fill-requires : tie.Need-fill-requires
-fill-requires c κs = search needs
+apply-requires : tie.Need-apply-requires
+apply-requires c κs = search needs
 
 returns-4 : tie.Need-returns-4
 returns-4 c =
-    let p = c .before .before .before .before in
+    let p = c .before .before in
     let e = p .before .before .before in
     let d = e .before in
     let b = d .before .before .before .before in
-    rw (sym (b .before .is-handle .ensures) ∙ not-false _ (b .if1 .left), sym (d .before .before .before .is-routed .ensures) ∙ not-false _ (d .if2 .left), sym (d .before .is-free .ensures) ∙ not-false _ (e .if3 .left), c .fill .ensures, p .place-for .ensures, p .before .line-of .ensures)
+    rw (sym (b .before .is-handle .ensures) ∙ not-false _ (b .if1 .left), sym (d .before .before .before .is-routed .ensures) ∙ not-false _ (d .if2 .left), sym (d .before .is-free .ensures) ∙ not-false _ (e .if3 .left), c .apply .ensures, p .place-for .ensures, p .before .line-of .ensures)
 
 pub hook-interrupt-spec : {M : Type 1} → statement M
 hook-interrupt-spec =
@@ -60,6 +60,6 @@ hook-interrupt-spec =
     returns-3
     line-of-requires
     place-for-requires
-    cast-t18
-    fill-requires
+    cast-t16
+    apply-requires
     returns-4)

@@ -17,17 +17,17 @@ entry-of-requires c κs = search needs
 cast-if2 : tie.Need-cast-if2
 cast-if2 c = search needs
 
-cast-t15 : tie.Need-cast-t15
-cast-t15 c = search needs
+cast-t11 : tie.Need-cast-t11
+cast-t11 c = search needs
 
-fill-requires : tie.Need-fill-requires
-fill-requires c κs = search needs
+apply-requires : tie.Need-apply-requires
+apply-requires c κs = search needs
 
 returns-2 : tie.Need-returns-2
 returns-2 c =
-    let f = c .before .before .before .before in
+    let f = c .before .before in
     let b = f .before .before .before in
-    rw (sym (b .before .is-handle .ensures) ∙ not-false _ (b .if1 .left), c .fill .ensures, ← f .before .entry-of .ensures, lt-ltb _ _ (f .if2 .taken))
+    rw (sym (b .before .is-handle .ensures) ∙ not-false _ (b .if1 .left), c .apply .ensures, ← f .before .entry-of .ensures, lt-ltb _ _ (f .if2 .taken))
 
 returns-3 : tie.Need-returns-3
 returns-3 c =
@@ -42,7 +42,7 @@ unhook-interrupt-spec =
     returns
     entry-of-requires
     cast-if2
-    cast-t15
-    fill-requires
+    cast-t11
+    apply-requires
     returns-2
     returns-3)

@@ -1,7 +1,7 @@
 -- `number_after`: each change by its own rule.
 use borrow.Author.Needs.{needs}
-use Rattle.interrupt.proofs.chain.number_after.Statement.{statement}
-use Rattle.interrupt.proofs.chain.number_after.Tie as tie
+use Rattle.hook_changes.proofs.change.number_after.Statement.{statement}
+use Rattle.hook_changes.proofs.change.number_after.Tie as tie
 
 enum-known-change : tie.Need-enum-known-change
 enum-known-change c = search needs

@@ -5,10 +5,10 @@ use mathlib.Core.Path.{sym, _∙_}
 use denote.Ref.{now}
 use borrow.Author.Tests.{lt-ltb, le-ltb}
 use Rattle.board.specs.Layout.{hookSize}
-use Rattle.interrupt.proofs.Entries.{number-here, number-after}
+use Rattle.hook_changes.proofs.Numbers.{number-here, number-after}
 use borrow.Author.Needs.{needs}
-use Rattle.interrupt.proofs.chain.unhooked_number.Statement.{statement}
-use Rattle.interrupt.proofs.chain.unhooked_number.Tie as tie
+use Rattle.hook_changes.proofs.change.unhooked_number.Statement.{statement}
+use Rattle.hook_changes.proofs.change.unhooked_number.Tie as tie
 
 add-u32-at : tie.Need-add-u32-at
 add-u32-at c = search needs

@@ -3,10 +3,10 @@ use mathlib.Core.Path.{sym, _∙_}
 use denote.Ref.{now}
 use native.Mathlib.Omega.{arith}
 use borrow.Author.Tests.{eq-eqb, ne-eqb, lt-ltb, le-ltb}
-use Rattle.interrupt.proofs.Entries.{number-here, number-before}
+use Rattle.hook_changes.proofs.Numbers.{number-here, number-before}
 use borrow.Author.Needs.{needs}
-use Rattle.interrupt.proofs.chain.hooked_number.Statement.{statement}
-use Rattle.interrupt.proofs.chain.hooked_number.Tie as tie
+use Rattle.hook_changes.proofs.change.hooked_number.Statement.{statement}
+use Rattle.hook_changes.proofs.change.hooked_number.Tie as tie
 
 u32-at-requires : tie.Need-u32-at-requires
 u32-at-requires c κs = search needs

@@ -1,7 +1,7 @@
 -- `number_of`: the tests are those of the definition.
 use borrow.Author.Tests.{eq-eqb, ne-eqb}
-use Rattle.interrupt.proofs.chain.number_of.Statement.{statement}
-use Rattle.interrupt.proofs.chain.number_of.Tie as tie
+use Rattle.hook_changes.proofs.change.number_of.Statement.{statement}
+use Rattle.hook_changes.proofs.change.number_of.Tie as tie
 
 returns : tie.Need-returns
 returns c = rw (eq-eqb _ _ (c .if1 .taken))

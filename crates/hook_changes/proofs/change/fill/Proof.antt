@@ -6,11 +6,11 @@ use Rattle.numbers.specs.Tables.{tableFrom, table}
 use Rattle.board.specs.Layout.{functionsMax, hookSize}
 use Rattle.numbers.proofs.Tables.{filled-more, filled-all}
 use Rattle.hooks.specs.Hooks.{hookAt, numberAt}
-use Rattle.interrupt.specs.Steps.{after}
+use Rattle.hook_changes.specs.Changes.{after}
 use borrow.Author.Needs.{needs}
 use native.Mathlib.Omega.{arith}
-use Rattle.interrupt.proofs.chain.fill.Statement.{statement}
-use Rattle.interrupt.proofs.chain.fill.Tie as tie
+use Rattle.hook_changes.proofs.change.fill.Statement.{statement}
+use Rattle.hook_changes.proofs.change.fill.Tie as tie
 
 abbrev Inv-loop : tie.InvT-loop
 Inv-loop old hooks₀ change j₀ hooks j =

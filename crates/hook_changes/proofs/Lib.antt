@@ -1,0 +1,2 @@
+-- The laws that proofs here and above cite.
+pub mod Numbers

@@ -1,0 +1,2 @@
+-- The definitions that contracts cite.
+pub mod Changes

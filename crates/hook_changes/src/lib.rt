@@ -1,0 +1,2 @@
+// The hook array changed by one hook.
+pub mod change;
