@@ -3,6 +3,7 @@ use crate::layout::FUNCTIONS;
 use crate::layout::Header;
 use numbers::number::u32_at;
 ghost use mathlib.Core.Path.{_≡_};
+ghost use Prim.Native.Nat.{_-_};
 ghost use Rattle.board.specs.Handles.{functionCount, isHandle};
 
 // The functions there are: the kept count, above 16 read as 16.
@@ -20,4 +21,11 @@ pub fn is_handle(header: &Header, handle: u32) -> bool
 {
     let count = function_count(header);
     (1 <= handle) & (handle <= count)
+}
+
+// The place of a handle's function; of 0, which is no handle, place 0.
+pub fn place(handle: u32) -> u32
+    ensures { λ r. ⌜ r ≡ handle - 1 ⌝ }
+{
+    if handle == 0 { 0 } else { handle - 1 }
 }

@@ -1,4 +1,4 @@
--- What data calls mean, without the proofs.
+-- What reads and writes of cells mean, without the proofs.
 use Prim.Native.Nat.{ℕ, _+_, _%_, _^_, _<_, _≤_}
 use mathlib.Core.List.{List}
 use mathlib.Core.Logic.{_⊎_}

@@ -1,4 +1,5 @@
 // Readers of the hook array, and of the loaded line and pin of a function.
+use board::handle::place;
 use board::layout::HOOK;
 use board::layout::Hooks;
 use board::layout::Records;
@@ -34,13 +35,6 @@ pub fn parameter_at(hooks: &Hooks, e: u32) -> u32
     ensures { λ r. ⌜ r ≡ hookAt (now (hooks .entry)) e .parameter ⌝ }
 {
     u32_at(hooks, HOOK * (e as usize) + 2)
-}
-
-// The place of a handle's function; of 0, which is no handle, place 0.
-fn place(handle: u32) -> u32
-    ensures { λ r. ⌜ r ≡ handle - 1 ⌝ }
-{
-    if handle == 0 { 0 } else { handle - 1 }
 }
 
 // A byte of the loaded record of a handle's function.

@@ -1,2 +1,2 @@
-// Board images: what one is, and the check.
+// The check of a board image.
 pub mod check;

@@ -1,5 +1,6 @@
 // The descriptors of a function's windows, in base register order.
 use board::handle::is_handle;
+use board::handle::place;
 use board::layout::BASES;
 use board::layout::Header;
 use board::layout::Records;
@@ -27,13 +28,6 @@ ghost use Prim.Native.Nat.{_-_, _^_, _≤_};
 ghost use Rattle.board.specs.Layout.{exponent};
 ghost use Rattle.descriptor.specs.Descriptor.{bytesOf};
 ghost use Rattle.resource.specs.Resource.{isWindow, windowBases, descriptorOf, descriptors, sourceOf, gave, getResource};
-
-// The place of a handle's function; of 0, which is no handle, place 0.
-fn place(handle: u32) -> u32
-    ensures { λ r. ⌜ r ≡ handle - 1 ⌝ }
-{
-    if handle == 0 { 0 } else { handle - 1 }
-}
 
 // Whether a length exponent is a window's.
 fn is_window(k: u8) -> bool
