@@ -1,2 +1,2 @@
 -- The laws that proofs here cite.
-mod Digits
+mod Joined

@@ -7,21 +7,25 @@ ghost use lib.ListN.{length};
 ghost use lib.Seq.{sets};
 ghost use Rattle.numbers.specs.Numbers.{byteAt, bytes, big, bigBytes};
 
+fn one_at(cells: &[u8], at: usize) -> u32
+    requires { ⌜ at + 1 ≤ length (now cells) ⌝ }
+    ensures { λ r. ⌜ r ≡ big 1 (byteAt (now (cells .entry))) at ⌝ }
+{
+    wide(cells[at])
+}
+
 fn word_at(cells: &[u8], at: usize) -> u32
     requires { ⌜ at + 2 ≤ length (now cells) ⌝ }
     ensures { λ r. ⌜ r ≡ big 2 (byteAt (now (cells .entry))) at ⌝ }
 {
-    256 * wide(cells[at]) + wide(cells[at + 1])
+    256 * one_at(cells, at) + one_at(cells, at + 1)
 }
 
 fn long_at(cells: &[u8], at: usize) -> u32
     requires { ⌜ at + 4 ≤ length (now cells) ⌝ }
     ensures { λ r. ⌜ r ≡ big 4 (byteAt (now (cells .entry))) at ⌝ }
 {
-    16777216 * wide(cells[at])
-        + 65536 * wide(cells[at + 1])
-        + 256 * wide(cells[at + 2])
-        + wide(cells[at + 3])
+    65536 * word_at(cells, at) + word_at(cells, at + 2)
 }
 
 // The number at a place.
@@ -30,28 +34,33 @@ pub(crate) fn number_at(cells: &[u8], at: usize, width: Width) -> u32
     ensures { λ r. ⌜ r ≡ big (bytes width) (byteAt (now (cells .entry))) at ⌝ }
 {
     match width {
-        Width::Byte => wide(cells[at]),
+        Width::Byte => one_at(cells, at),
         Width::Word => word_at(cells, at),
         Width::Long => long_at(cells, at),
     }
+}
+
+fn put_one(cells: &mut [u8], at: usize, value: u32)
+    requires { ⌜ at + 1 ≤ length (now cells) ⌝ }
+    ensures { λ _. ⌜ now (cells .exit) ≡ sets (now (cells .entry)) at (bigBytes 1 value) ⌝ }
+{
+    cells[at] = (value % 256) as u8;
 }
 
 fn put_word(cells: &mut [u8], at: usize, value: u32)
     requires { ⌜ at + 2 ≤ length (now cells) ⌝ }
     ensures { λ _. ⌜ now (cells .exit) ≡ sets (now (cells .entry)) at (bigBytes 2 value) ⌝ }
 {
-    cells[at] = (value / 256 % 256) as u8;
-    cells[at + 1] = (value % 256) as u8;
+    put_one(cells, at, value / 256);
+    put_one(cells, at + 1, value);
 }
 
 fn put_long(cells: &mut [u8], at: usize, value: u32)
     requires { ⌜ at + 4 ≤ length (now cells) ⌝ }
     ensures { λ _. ⌜ now (cells .exit) ≡ sets (now (cells .entry)) at (bigBytes 4 value) ⌝ }
 {
-    cells[at] = (value / 16777216 % 256) as u8;
-    cells[at + 1] = (value / 65536 % 256) as u8;
-    cells[at + 2] = (value / 256 % 256) as u8;
-    cells[at + 3] = (value % 256) as u8;
+    put_word(cells, at, value / 65536);
+    put_word(cells, at + 2, value);
 }
 
 // Stores a number at a place.
@@ -60,9 +69,7 @@ pub(crate) fn put_number(cells: &mut [u8], at: usize, width: Width, value: u32)
     ensures { λ _. ⌜ now (cells .exit) ≡ sets (now (cells .entry)) at (bigBytes (bytes width) value) ⌝ }
 {
     match width {
-        Width::Byte => {
-            cells[at] = (value % 256) as u8;
-        }
+        Width::Byte => put_one(cells, at, value),
         Width::Word => put_word(cells, at, value),
         Width::Long => put_long(cells, at, value),
     }

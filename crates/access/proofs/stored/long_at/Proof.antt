@@ -1,90 +1,38 @@
--- `long_at`: four bytes added up.
+-- `long_at`: its two halves joined.
+use Prim.Native.Nat.{_+_}
+use native.Mathlib.Omega.{arith}
+use mathlib.Core.Path.{sym}
 use Rattle.numbers.specs.Numbers.{byteAt}
-use Rattle.access.proofs.Digits.{four-bytes}
+use Rattle.numbers.proofs.Numbers.{big-below}
+use Rattle.access.proofs.Joined.{big-join}
 use borrow.Author.Needs.{needs}
 use Rattle.access.proofs.stored.long_at.Statement.{statement}
 use Rattle.access.proofs.stored.long_at.Tie as tie
 
-shared-slice-read-wide : tie.Need-shared-slice-read-wide
-shared-slice-read-wide c = search needs
-
-wide-requires : tie.Need-wide-requires
-wide-requires c κs = search needs
+word-at-requires : tie.Need-word-at-requires
+word-at-requires c κs = search needs
 
 mul-result : tie.Need-mul-result
-mul-result c = search needs
+mul-result c =
+    let a = c .before .before .args in
+    omega (arith, c .word-at .ensures, big-below 2 (byteAt (a .cells .now)) (a .at))
 
-add-wide : tie.Need-add-wide
-add-wide c = search needs
+add-word-at : tie.Need-add-word-at
+add-word-at c = search needs
 
-shared-slice-read-wide-2 : tie.Need-shared-slice-read-wide-2
-shared-slice-read-wide-2 c = search needs
-
-wide-requires-2 : tie.Need-wide-requires-2
-wide-requires-2 c κs = search needs
-
-mul-result-2 : tie.Need-mul-result-2
-mul-result-2 c = search needs
+word-at-requires-2 : tie.Need-word-at-requires-2
+word-at-requires-2 c κs = search needs
 
 add-result : tie.Need-add-result
-add-result c = search needs
-
-add-wide-2 : tie.Need-add-wide-2
-add-wide-2 c = search needs
-
-shared-slice-read-wide-3 : tie.Need-shared-slice-read-wide-3
-shared-slice-read-wide-3 c = search needs
-
-wide-requires-3 : tie.Need-wide-requires-3
-wide-requires-3 c κs = search needs
-
-mul-result-3 : tie.Need-mul-result-3
-mul-result-3 c = search needs
-
-add-result-2 : tie.Need-add-result-2
-add-result-2 c = search needs
-
-add-wide-3 : tie.Need-add-wide-3
-add-wide-3 c = search needs
-
-shared-slice-read-wide-4 : tie.Need-shared-slice-read-wide-4
-shared-slice-read-wide-4 c = search needs
-
-wide-requires-4 : tie.Need-wide-requires-4
-wide-requires-4 c κs = search needs
-
-add-result-3 : tie.Need-add-result-3
-add-result-3 c = search needs
+add-result c =
+    let a = c .before .before .before .args in
+    let f = byteAt (a .cells .now) in
+    omega (arith, c .before .word-at .ensures, c .word-at2 .ensures, big-below 2 f (a .at), big-below 2 f (a .at + 2))
 
 returns : tie.Need-returns
-returns c =
-    let a = c .before .before .before .before .before .before .before .before .before .args in
-    let w = c .before .before .before .before .before .before .wide .ensures in
-    let x = c .before .before .before .before .wide2 .ensures in
-    let y = c .before .before .wide3 .ensures in
-    let z = c .wide4 .ensures in
-    rw (w .0, x .0, y .0, z .0)
-    (four-bytes (byteAt (a .cells .now)) (a .at) (rw (w .0) at (w .1)) (rw (x .0) at (x .1)) (rw (y .0) at (y .1)) (rw (z .0) at (z .1)))
+returns c = rw (c .before .word-at .ensures, c .word-at2 .ensures) (sym (big-join 2 2 _ _))
 
 pub long-at-spec : {M : Type 1} → statement M
 long-at-spec =
     tie.close
-    (tie.spec
-    shared-slice-read-wide
-    wide-requires
-    mul-result
-    add-wide
-    shared-slice-read-wide-2
-    wide-requires-2
-    mul-result-2
-    add-result
-    add-wide-2
-    shared-slice-read-wide-3
-    wide-requires-3
-    mul-result-3
-    add-result-2
-    add-wide-3
-    shared-slice-read-wide-4
-    wide-requires-4
-    add-result-3
-    returns)
+    (tie.spec word-at-requires mul-result add-word-at word-at-requires-2 add-result returns)

@@ -1,8 +1,4 @@
 -- `number_at`: by the width.
-use mathlib.Core.Path.{sym, _∙_}
-use native.Mathlib.Omega.{arith}
-use Rattle.numbers.specs.Numbers.{byteAt, bytes}
-use Rattle.access.proofs.Digits.{one-byte}
 use borrow.Author.Needs.{needs}
 use Rattle.access.proofs.stored.number_at.Statement.{statement}
 use Rattle.access.proofs.stored.number_at.Tie as tie
@@ -10,11 +6,8 @@ use Rattle.access.proofs.stored.number_at.Tie as tie
 enum-told : tie.Need-enum-told
 enum-told c = search needs
 
-shared-slice-read-wide : tie.Need-shared-slice-read-wide
-shared-slice-read-wide c = omega (arith, rw (c .before .enum-told .given .1) at (c .before .before .before .before .pre))
-
-wide-requires : tie.Need-wide-requires
-wide-requires c κs = search needs
+one-at-requires : tie.Need-one-at-requires
+one-at-requires c κs = rw (c .enum-told .given .1) at (c .before .before .before .pre)
 
 enum-told-2 : tie.Need-enum-told-2
 enum-told-2 c = search needs
@@ -29,10 +22,7 @@ long-at-requires : tie.Need-long-at-requires
 long-at-requires c κs = rw (c .enum-told3 .given .1) at (c .before .before .before .pre)
 
 returns : tie.Need-returns
-returns c =
-    let a = c .before .before .before .before .before .args in
-    let x = c .wide .ensures in
-    rw (c .before .before .enum-told .given .1, x .0) (one-byte (byteAt (a .cells .now)) (a .at) (rw (x .0) at (x .1)))
+returns c = rw (c .before .enum-told .given .1) (c .one-at .ensures)
 
 returns-2 : tie.Need-returns-2
 returns-2 c = rw (c .before .enum-told2 .given .1) (c .word-at .ensures)
@@ -45,8 +35,7 @@ number-at-spec =
     tie.close
     (tie.spec
     enum-told
-    shared-slice-read-wide
-    wide-requires
+    one-at-requires
     enum-told-2
     word-at-requires
     enum-told-3

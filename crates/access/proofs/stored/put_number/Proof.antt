@@ -1,6 +1,4 @@
 -- `put_number`: by the width.
-use native.Mathlib.Omega.{arith}
-use Rattle.access.proofs.Digits.{one-store}
 use borrow.Author.Needs.{needs}
 use Rattle.access.proofs.stored.put_number.Statement.{statement}
 use Rattle.access.proofs.stored.put_number.Tie as tie
@@ -8,11 +6,8 @@ use Rattle.access.proofs.stored.put_number.Tie as tie
 enum-told : tie.Need-enum-told
 enum-told c = search needs
 
-cast-cells : tie.Need-cast-cells
-cast-cells c = search needs
-
-slice-write-cells : tie.Need-slice-write-cells
-slice-write-cells c = omega (arith, rw (c .enum-told .given .1) at (c .before .before .before .pre))
+put-one-requires : tie.Need-put-one-requires
+put-one-requires c κs = rw (c .before .enum-told .given .1) at (c .before .before .before .before .pre)
 
 enum-told-2 : tie.Need-enum-told-2
 enum-told-2 c = search needs
@@ -30,7 +25,7 @@ same-length : tie.Need-same-length
 same-length c = search needs
 
 returns : tie.Need-returns
-returns c = rw (c .enum-told .given .1) (one-store _ _ _)
+returns c = rw (c .before .before .before .before .enum-told .given .1) (c .before .before .put-one .ensures)
 
 same-length-2 : tie.Need-same-length-2
 same-length-2 c = search needs
@@ -49,8 +44,7 @@ put-number-spec =
     tie.close
     (tie.spec
     enum-told
-    cast-cells
-    slice-write-cells
+    put-one-requires
     enum-told-2
     put-word-requires
     enum-told-3

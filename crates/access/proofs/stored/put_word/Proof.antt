@@ -1,40 +1,24 @@
--- `put_word`: two stores.
-use native.Mathlib.Omega.{arith}
-use lib.ListN.{length-set}
-use Rattle.access.proofs.Digits.{two-stores}
+-- `put_word`: its two halves joined.
+use Rattle.access.proofs.Joined.{stores-join}
 use borrow.Author.Needs.{needs}
 use Rattle.access.proofs.stored.put_word.Statement.{statement}
 use Rattle.access.proofs.stored.put_word.Tie as tie
 
-cast-cells : tie.Need-cast-cells
-cast-cells c = search needs
+put-one-requires : tie.Need-put-one-requires
+put-one-requires c κs = search needs
 
-slice-write-cells : tie.Need-slice-write-cells
-slice-write-cells c = search needs
+add-put-one : tie.Need-add-put-one
+add-put-one c = search needs
 
-cast-cells-2 : tie.Need-cast-cells-2
-cast-cells-2 c = search needs
-
-add-cells : tie.Need-add-cells
-add-cells c = search needs
-
-slice-write-cells-2 : tie.Need-slice-write-cells-2
-slice-write-cells-2 c = simp length-set (omega (arith, c .pre))
+put-one-requires-2 : tie.Need-put-one-requires-2
+put-one-requires-2 c κs = search needs
 
 same-length : tie.Need-same-length
 same-length c = search needs
 
 returns : tie.Need-returns
-returns c = two-stores _ _ _
+returns c = rw (c .before .before .put-one2 .ensures, c .before .before .before .before .before .before .put-one .ensures) (stores-join 1 1 _ _ _)
 
 pub put-word-spec : {M : Type 1} → statement M
 put-word-spec =
-    tie.close
-    (tie.spec
-    cast-cells
-    slice-write-cells
-    cast-cells-2
-    add-cells
-    slice-write-cells-2
-    same-length
-    returns)
+    tie.close (tie.spec put-one-requires add-put-one put-one-requires-2 same-length returns)
