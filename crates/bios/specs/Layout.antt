@@ -2,12 +2,12 @@
 use Prim.Native.Nat.{ℕ, _+_, _*_}
 use mathlib.Core.List.{List, [], _∷_}
 use lib.ListN.{getD}
-use Rattle.board.specs.Layout.{functionsMax, windowsMax, recordSize, registersEach, hookSize, markSize}
+use Rattle.board.specs.Layout.{functionsMax, windowsMax, recordSize, registersEach, headerSize, hookSize, markSize}
 
 -- header, records, registers, windows, cell offsets, hooks, used marks: numbers of 4 or 8 bytes, and bytes
 abbrev pub parts : List ℕ
 parts =
-    4 * 4
+    4 * headerSize
     ∷ functionsMax * recordSize
     ∷ functionsMax * registersEach
     ∷ 8 * windowsMax

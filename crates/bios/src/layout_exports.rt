@@ -1,5 +1,6 @@
 // The bytes of each lent part for C, which compares them with its own declaration of a board.
 use board::layout::FUNCTIONS;
+use board::layout::HEADER;
 use board::layout::HOOK;
 use board::layout::MARK;
 use board::layout::RECORD;
@@ -15,7 +16,7 @@ pub extern "C" fn bios_part_bytes(part: u32) -> u64
     ensures { λ r. ⌜ r ≡ partBytes part ⌝ }
 {
     let parts: [u64; 7] = [
-        4 * 4,
+        (4 * HEADER) as u64,
         (FUNCTIONS * RECORD) as u64,
         (FUNCTIONS * REGISTER_BYTES) as u64,
         (8 * WINDOWS) as u64,

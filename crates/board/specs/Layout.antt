@@ -30,12 +30,15 @@ offsetAt = 536
 abbrev pub dmaOffsetAt : ℕ
 dmaOffsetAt = 540
 
--- bytes of a window entry; registers of a function; numbers of a hook and of a used mark
+-- bytes of a window entry; registers of a function; numbers of the header, of a hook and of a used mark
 abbrev pub entrySize : ℕ
 entrySize = 4
 
 abbrev pub registersEach : ℕ
 registersEach = 256
+
+abbrev pub headerSize : ℕ
+headerSize = 4
 
 abbrev pub hookSize : ℕ
 hookSize = 3

@@ -35,13 +35,15 @@ pub const COMMAND: u8 = 0x04;
 
 pub const BASE_0: u8 = 0x10;
 
-// Numbers of a hook and of a used mark.
+// Numbers of the header, of a hook and of a used mark.
+pub const HEADER: usize = 4;
+
 pub const HOOK: usize = 3;
 
 pub const MARK: usize = 2;
 
 // The count of functions, above 16 read as 16; the other numbers have no meaning yet.
-pub type Header = [u32; 4];
+pub type Header = [u32; HEADER];
 
 // The loaded records.
 pub type Records = [u8; FUNCTIONS * RECORD];
