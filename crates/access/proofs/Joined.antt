@@ -1,12 +1,12 @@
--- Numbers of a + b bytes, highest byte first, from those of a and of b bytes: what two reads make, and what two stores come to.
+-- Numbers of a + b bytes from those of a and of b bytes: what two reads make, in both orders, and what two stores come to.
 use Prim.Native.Nat.{ℕ, zero, suc, _+_, _-_, _*_, _/_, _%_, _^_}
-use native.Mathlib.Nat.{add-zero, zero-add, mul-zero, mul-add, mul-assoc, mul-comm, div-div-eq-div-mul}
+use native.Mathlib.Nat.{add-zero, zero-add, mul-zero, mul-add, mul-assoc, mul-comm, div-div-eq-div-mul, pow-suc}
 use native.Mathlib.Omega.{arith}
 use mathlib.Core.List.{List, _++_}
 use mathlib.Core.Path.{_≡_}
 use lib.Pow.{pow-add}
 use lib.Seq.{sets}
-use Rattle.numbers.specs.Numbers.{big, bigBytes}
+use Rattle.numbers.specs.Numbers.{little, big, bigBytes}
 use Rattle.numbers.specs.Tables.{tableFrom}
 use Rattle.numbers.proofs.Stores.{sets-append}
 use Rattle.numbers.proofs.Tables.{table-length, table-same}
@@ -19,6 +19,20 @@ big-join (suc a) b f at =
     let next : at + 1 + a ≡ at + suc a = omega arith in
     let top : 256 ^ a * 256 ^ b * (f at % 256) ≡ 256 ^ b * (256 ^ a * (f at % 256)) = rw (mul-comm (256 ^ a) (256 ^ b), mul-assoc) in
     rw (n, big-join a b f (at + 1), pow-add 256 a b, top, mul-add, next) (omega arith)
+
+pub little-join : (a b : ℕ) (f : ℕ → ℕ) (at : ℕ) → little (a + b) f at ≡ little a f at + 256 ^ a * little b f (at + a)
+unfolding little
+little-join zero b f at = rw (zero-add b, add-zero at) (omega arith)
+little-join (suc a) b f at =
+    let n : suc a + b ≡ suc (a + b) = omega arith in
+    let next : at + 1 + a ≡ at + suc a = omega arith in
+    let rest : 256 * (256 ^ a * little b f (at + suc a)) ≡ 256 ^ suc a * little b f (at + suc a) = rw (pow-suc, mul-comm (256 ^ a) 256, mul-assoc) in
+    rw (n, little-join a b f (at + 1), mul-add, next, rest) (omega arith)
+
+-- one byte has one order
+pub one-order : (f : ℕ → ℕ) (at : ℕ) → little 1 f at ≡ big 1 f at
+unfolding little big
+one-order f at = omega arith
 
 table-split : (i a b : ℕ) (f : ℕ → ℕ) → tableFrom i (a + b) f ≡ tableFrom i a f ++ tableFrom (i + a) b f
 unfolding tableFrom

@@ -1,6 +1,7 @@
 -- Data reads and writes: document 01, "Data and byte order" and "Numbers handed back".
-use Prim.Native.Nat.{ℕ}
+use Prim.Native.Nat.{ℕ, _+_, _≤_}
 use mathlib.Core.List.{List}
+use mathlib.Core.Path.{_≡_}
 use lib.ListN.{length}
 use Rattle.board.specs.Reads.{accepted, refused, acceptedFast, refusedFast}
 use Rattle.board.specs.Statuses.{successful}
@@ -10,6 +11,10 @@ use Rattle.board.specs.declared.status.Status.{Status}
 use Rattle.data_cells.specs.declared.place.Place.{Place}
 use Rattle.data_cells.specs.declared.place.Place.the-variants.{At, Refused}
 use Rattle.data_cells.specs.Cells.{dataPlace, valueAt, cellsAfter}
+
+-- the cells of a place are among so many
+abbrev pub Inside : ℕ → ℕ → Place → Type 0
+Inside w room place = (at order : ℕ) → place ≡ At at order → at + w ≤ room
 
 abbrev pub readAt : ℕ → List ℕ → Place → Read
 readAt w cells (At at order) = accepted (valueAt order w at cells)

@@ -1,2 +1,3 @@
 -- The definitions that contracts cite.
 pub mod Data
+pub mod Asked

@@ -1,3 +1,5 @@
 // Data calls: reads and writes of cells.
+pub mod asked;
+mod at_place;
 pub mod data;
 mod stored;

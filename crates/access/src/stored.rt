@@ -1,11 +1,13 @@
-// Numbers in cells, highest byte first. All their cells are there, so that none is tested for when they are read or written.
+// Numbers in cells. All their cells are there, so that none is tested for when they are read or written.
+use byte_order::order::REVERSED_BYTES;
 use numbers::number::Width;
 use numbers::number::wide;
 ghost use mathlib.Core.Path.{_≡_};
 ghost use Prim.Native.Nat.{_+_, _≤_};
 ghost use lib.ListN.{length};
 ghost use lib.Seq.{sets};
-ghost use Rattle.numbers.specs.Numbers.{byteAt, bytes, big, bigBytes};
+ghost use Rattle.numbers.specs.Numbers.{byteAt, bytes, little, big, bigBytes};
+ghost use Rattle.data_cells.specs.Cells.{valueAt};
 
 fn one_at(cells: &[u8], at: usize) -> u32
     requires { ⌜ at + 1 ≤ length (now cells) ⌝ }
@@ -28,15 +30,39 @@ fn long_at(cells: &[u8], at: usize) -> u32
     65536 * word_at(cells, at) + word_at(cells, at + 2)
 }
 
-// The number at a place.
-pub(crate) fn number_at(cells: &[u8], at: usize, width: Width) -> u32
+fn little_word_at(cells: &[u8], at: usize) -> u32
+    requires { ⌜ at + 2 ≤ length (now cells) ⌝ }
+    ensures { λ r. ⌜ r ≡ little 2 (byteAt (now (cells .entry))) at ⌝ }
+{
+    one_at(cells, at) + 256 * one_at(cells, at + 1)
+}
+
+fn little_long_at(cells: &[u8], at: usize) -> u32
+    requires { ⌜ at + 4 ≤ length (now cells) ⌝ }
+    ensures { λ r. ⌜ r ≡ little 4 (byteAt (now (cells .entry))) at ⌝ }
+{
+    little_word_at(cells, at) + 65536 * little_word_at(cells, at + 2)
+}
+
+// The value in the cells at a place. Where it is to be reversed it is read least byte first at once: a processor then needs one load either way.
+pub(crate) fn value_at(cells: &[u8], at: usize, order: u8, width: Width) -> u32
     requires { ⌜ at + bytes width ≤ length (now cells) ⌝ }
-    ensures { λ r. ⌜ r ≡ big (bytes width) (byteAt (now (cells .entry))) at ⌝ }
+    ensures { λ r. ⌜ r ≡ valueAt order (bytes width) at (now (cells .entry)) ⌝ }
 {
     match width {
         Width::Byte => one_at(cells, at),
-        Width::Word => word_at(cells, at),
-        Width::Long => long_at(cells, at),
+        Width::Word => {
+            if order == REVERSED_BYTES {
+                return little_word_at(cells, at);
+            }
+            word_at(cells, at)
+        }
+        Width::Long => {
+            if order == REVERSED_BYTES {
+                return little_long_at(cells, at);
+            }
+            long_at(cells, at)
+        }
     }
 }
 

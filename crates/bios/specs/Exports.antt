@@ -15,7 +15,6 @@ use Rattle.config_read.specs.Read.{readConfig, fastReadConfig}
 use Rattle.config.specs.Write.{Wrote, wrote, writeConfig}
 use Rattle.board.specs.declared.read.Read.{Read}
 use Rattle.board.specs.declared.read.FastRead.{FastRead}
-use Rattle.access.specs.Data.{readData, fastReadData, writeData, Wrote as DataWrote, wrote as dataWrote}
 use Rattle.conversions.specs.declared.convert.ToBus.{ToBus}
 use Rattle.conversions.specs.declared.convert.ToCpu.{ToCpu}
 use Rattle.hooks.specs.Hooks.{Hook}
@@ -96,22 +95,6 @@ fastNumbers value fault = record { value = value; fault = fault }
 
 abbrev pub fastShown : FastRead → Fast
 fastShown r = fastNumbers (r .value) (cond (r .fault) 1 0)
-
--- data calls of a width for C
-abbrev pub askedData : AskedWidth → List ℕ → List ℕ → List ℕ → List ℕ → List ℕ → ℕ → ℕ → ℕ → Read
-askedData (Known width) header records windows offsets cells space handle address =
-    readData (bytes width) header records windows offsets cells space handle address
-askedData Other header records windows offsets cells space handle address = record { status = generalError; value = 0 }
-
-abbrev pub askedFastData : AskedWidth → List ℕ → List ℕ → List ℕ → List ℕ → List ℕ → ℕ → ℕ → ℕ → FastRead
-askedFastData (Known width) header records windows offsets cells space handle address =
-    fastReadData (bytes width) header records windows offsets cells space handle address
-askedFastData Other header records windows offsets cells space handle address = record { value = 0xFFFFFFFF; fault = true }
-
-abbrev pub askedDataWrite : AskedWidth → List ℕ → List ℕ → List ℕ → List ℕ → List ℕ → ℕ → ℕ → ℕ → ℕ → DataWrote
-askedDataWrite (Known width) header records windows offsets cells space handle address value =
-    writeData (bytes width) header records windows offsets cells space handle address value
-askedDataWrite Other header records windows offsets cells space handle address value = dataWrote generalError cells
 
 -- conversions: a number and an address
 abbrev pub bus : ℕ → BusAddress

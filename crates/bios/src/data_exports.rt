@@ -1,25 +1,22 @@
 // Data calls and address conversions for C. A width is a number here; another than 1, 2 or 4 is refused before all else.
-use access::data::fast_read_data;
-use access::data::read_data;
-use access::data::write_data;
-use asked_width::width::AskedWidth;
-use asked_width::width::space_of;
-use asked_width::width::width_of;
+use access::asked::asked_fast_read;
+use access::asked::asked_read;
+use access::asked::asked_write;
 use board::address::BusAddress;
 use board::address::CpuAddress;
 use board::layout::CellOffsets;
 use board::layout::Header;
 use board::layout::Records;
 use board::layout::Windows;
-use board::status::Status;
 use conversions::convert::bus_to_cpu;
 use conversions::convert::cpu_to_bus;
 ghost use mathlib.Core.Path.{_≡_};
 ghost use Rattle.conversions.specs.Convert.{busToCpu, cpuToBus};
+ghost use Rattle.access.specs.Asked.{askedData, askedFastData, askedDataWrite};
 ghost use Rattle.access.specs.Data.{wrote};
 ghost use Rattle.find_window.specs.Find.{spaceNumber};
 ghost use Rattle.asked_width.specs.Widths.{widthOf, spaceOf};
-ghost use Rattle.bios.specs.Exports.{status, bus, cpu, readNumbers, fastNumbers, fastShown, askedData, askedFastData, askedDataWrite, toCpu, toBus};
+ghost use Rattle.bios.specs.Exports.{status, bus, cpu, readNumbers, fastNumbers, fastShown, toCpu, toBus};
 
 // Reads a number of a width in a window; the value, 0 where it is refused, goes to `value`.
 #[no_mangle]
@@ -37,27 +34,19 @@ pub extern "C" fn bios_read_data(
 ) -> i32
     ensures { λ r. ⌜ readNumbers r (now (value .exit)) ≡ askedData (widthOf width) (now (header .entry)) (now (records .entry)) (now (windows .entry)) (now (offsets .entry)) (now (cells .entry)) (spaceNumber (spaceOf io)) handle address ⌝ }
 {
-    match width_of(width) {
-        AskedWidth::Known(width) => {
-            let read = read_data(
-                header,
-                records,
-                windows,
-                offsets,
-                cells,
-                space_of(io),
-                width,
-                handle,
-                BusAddress(address),
-            );
-            *value = read.value;
-            read.status.number()
-        }
-        AskedWidth::Other => {
-            *value = 0;
-            Status::GENERAL_ERROR.number()
-        }
-    }
+    let read = asked_read(
+        header,
+        records,
+        windows,
+        offsets,
+        cells,
+        io,
+        width,
+        handle,
+        address,
+    );
+    *value = read.value;
+    read.status.number()
 }
 
 // Reads it fast: the value, and in `fault` 1 where it is refused.
@@ -76,27 +65,19 @@ pub extern "C" fn bios_fast_read_data(
 ) -> u32
     ensures { λ r. ⌜ fastNumbers r (now (fault .exit)) ≡ fastShown (askedFastData (widthOf width) (now (header .entry)) (now (records .entry)) (now (windows .entry)) (now (offsets .entry)) (now (cells .entry)) (spaceNumber (spaceOf io)) handle address) ⌝ }
 {
-    match width_of(width) {
-        AskedWidth::Known(width) => {
-            let read = fast_read_data(
-                header,
-                records,
-                windows,
-                offsets,
-                cells,
-                space_of(io),
-                width,
-                handle,
-                BusAddress(address),
-            );
-            *fault = read.fault as u32;
-            read.value
-        }
-        AskedWidth::Other => {
-            *fault = 1;
-            0xFFFFFFFF
-        }
-    }
+    let read = asked_fast_read(
+        header,
+        records,
+        windows,
+        offsets,
+        cells,
+        io,
+        width,
+        handle,
+        address,
+    );
+    *fault = read.fault as u32;
+    read.value
 }
 
 // Writes the low bytes of a value in a window.
@@ -115,24 +96,19 @@ pub extern "C" fn bios_write_data(
 ) -> i32
     ensures { λ r. ⌜ wrote (status r) (now (cells .exit)) ≡ askedDataWrite (widthOf width) (now (header .entry)) (now (records .entry)) (now (windows .entry)) (now (offsets .entry)) (now (cells .entry)) (spaceNumber (spaceOf io)) handle address value ⌝ }
 {
-    match width_of(width) {
-        AskedWidth::Known(width) => {
-            let s = write_data(
-                header,
-                records,
-                windows,
-                offsets,
-                cells,
-                space_of(io),
-                width,
-                handle,
-                BusAddress(address),
-                value,
-            );
-            s.number()
-        }
-        AskedWidth::Other => Status::GENERAL_ERROR.number(),
-    }
+    let status = asked_write(
+        header,
+        records,
+        windows,
+        offsets,
+        cells,
+        io,
+        width,
+        handle,
+        address,
+        value,
+    );
+    status.number()
 }
 
 // Where the CPU sees a bus address of a function; 0 where it is refused.

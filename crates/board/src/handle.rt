@@ -3,7 +3,7 @@ use crate::layout::FUNCTIONS;
 use crate::layout::Header;
 use numbers::number::u32_at;
 ghost use mathlib.Core.Path.{_≡_};
-ghost use Prim.Native.Nat.{_-_};
+ghost use Prim.Native.Nat.{_-_, _<_};
 ghost use Rattle.board.specs.Handles.{functionCount, isHandle};
 
 // The functions there are: the kept count, above 16 read as 16.
@@ -28,4 +28,11 @@ pub fn place(handle: u32) -> u32
     ensures { λ r. ⌜ r ≡ handle - 1 ⌝ }
 {
     if handle == 0 { 0 } else { handle - 1 }
+}
+
+// The same of a handle, without a test: of 0 it is a number that no function has.
+pub fn place_of_handle(handle: u32) -> u32
+    ensures { λ r. ⌜ (0 < handle → r ≡ handle - 1) ⌝ }
+{
+    std::num::wrapping_sub_u32(handle, 1)
 }

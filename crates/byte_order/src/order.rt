@@ -1,5 +1,6 @@
 // The byte-order rule.
 use numbers::number::Width;
+use numbers::number::bytes_by_shift;
 use numbers::number::reversed;
 ghost use mathlib.Core.Path.{_≡_};
 ghost use Rattle.numbers.specs.Numbers.{bytes};
@@ -8,7 +9,7 @@ ghost use Rattle.byte_order.specs.Orders.{placed, ordered};
 // The byte orders that differ from order 0.
 const SWAPPED_PLACES: u8 = 1;
 
-const REVERSED_BYTES: u8 = 2;
+pub const REVERSED_BYTES: u8 = 2;
 
 // Where the cells for a distance stand.
 pub fn placed(order: u8, width: Width, distance: u32) -> u32
@@ -17,11 +18,7 @@ pub fn placed(order: u8, width: Width, distance: u32) -> u32
     if order != SWAPPED_PLACES {
         return distance;
     }
-    match width {
-        Width::Byte => distance ^ 3,
-        Width::Word => distance ^ 2,
-        Width::Long => distance ^ 0,
-    }
+    distance ^ (4 - bytes_by_shift(width))
 }
 
 // A value as the cells hold it, and back.

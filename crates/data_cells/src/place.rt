@@ -1,5 +1,6 @@
 // Where the cells of an access stand.
 use board::address::BusAddress;
+use board::handle::place_of_handle;
 use board::layout::BASES;
 use board::layout::CellOffsets;
 use board::layout::Header;
@@ -12,7 +13,7 @@ use find_window::find::Finding;
 use find_window::find::Space;
 use find_window::find::find_window;
 use numbers::number::Width;
-use numbers::number::bytes;
+use numbers::number::bytes_by_shift;
 use numbers::number::u32_at;
 ghost use mathlib.Core.Path.{_≡_};
 ghost use lib.ListN.{getD};
@@ -20,7 +21,7 @@ ghost use Prim.Native.Nat.{_+_, _*_};
 ghost use Rattle.board.specs.Layout.{bases, byteOrder};
 ghost use Rattle.numbers.specs.Numbers.{bytes};
 ghost use Rattle.find_window.specs.Find.{spaceNumber};
-ghost use Rattle.data_cells.specs.Cells.{cellsAt, dataPlace};
+ghost use Rattle.data_cells.specs.Cells.{cellsAt, placeOf, dataPlace};
 
 // The first cell and the byte order of an access, or the refusal.
 pub enum Place {
@@ -43,12 +44,38 @@ fn cells_at(
     let order = byte_order(records, function, base);
     let begin = u32_at(offsets, BASES * (function as usize) + base as usize);
     let at = begin as usize + placed(order, width, distance) as usize;
-    if room < at + bytes(width) as usize {
+    if room < at + bytes_by_shift(width) as usize {
         return Place::Refused(Status::BUFFER_TOO_SMALL);
     }
     Place::At {
         at: at,
         order: order,
+    }
+}
+
+// The cells for what was found in the windows of the function at a place, from 0.
+pub fn place_of(
+    records: &Records,
+    offsets: &CellOffsets,
+    room: usize,
+    width: Width,
+    function: u32,
+    finding: Finding,
+) -> Place
+    ensures { λ r. ⌜ r ≡ placeOf (λ b. getD (now (offsets .entry)) (bases * function + b) 0) (byteOrder (now (records .entry)) function) room (bytes width) finding ⌝ }
+{
+    match finding {
+        Finding::Found {
+            base,
+            distance,
+            remaining: _,
+        } => cells_at(records, offsets, room, width, function, base, distance),
+        Finding::BadHandle => Place::Refused(Status::BAD_HANDLE),
+        Finding::ShortCells => Place::Refused(Status::BUFFER_TOO_SMALL),
+        Finding::NotAligned => Place::Refused(Status::GENERAL_ERROR),
+        Finding::Nothing => Place::Refused(Status::GENERAL_ERROR),
+        Finding::Contested => Place::Refused(Status::GENERAL_ERROR),
+        Finding::WidthMissing => Place::Refused(Status::FUNC_NOT_SUPPORTED),
     }
 }
 
@@ -66,7 +93,7 @@ pub fn data_place(
 ) -> Place
     ensures { λ r. ⌜ r ≡ dataPlace (bytes width) (now (header .entry)) (now (records .entry)) (now (windows .entry)) (now (offsets .entry)) room (spaceNumber space) handle (address .0) ⌝ }
 {
-    match find_window(
+    let finding = find_window(
         header,
         records,
         windows,
@@ -76,17 +103,13 @@ pub fn data_place(
         width,
         handle,
         address,
-    ) {
-        Finding::Found {
-            base,
-            distance,
-            remaining: _,
-        } => cells_at(records, offsets, room, width, handle - 1, base, distance),
-        Finding::BadHandle => Place::Refused(Status::BAD_HANDLE),
-        Finding::ShortCells => Place::Refused(Status::BUFFER_TOO_SMALL),
-        Finding::NotAligned => Place::Refused(Status::GENERAL_ERROR),
-        Finding::Nothing => Place::Refused(Status::GENERAL_ERROR),
-        Finding::Contested => Place::Refused(Status::GENERAL_ERROR),
-        Finding::WidthMissing => Place::Refused(Status::FUNC_NOT_SUPPORTED),
-    }
+    );
+    place_of(
+        records,
+        offsets,
+        room,
+        width,
+        place_of_handle(handle),
+        finding,
+    )
 }

@@ -9,7 +9,7 @@ use board::layout::WINDOWS;
 use board::layout::Windows;
 use board::layout::widths;
 use numbers::number::Width;
-use numbers::number::is_multiple;
+use numbers::number::bytes_by_shift;
 use numbers::number::u32_at;
 use window::kept::base_of;
 use window::kept::handle_of;
@@ -19,7 +19,7 @@ use window::kept::length_of;
 use window::kept::start_of;
 ghost use mathlib.Core.Path.{_≡_};
 ghost use lib.Dec.{eqb};
-ghost use Prim.Native.Nat.{_-_, _≤_, _<_};
+ghost use Prim.Native.Nat.{_-_, _%_, _≤_, _<_};
 ghost use Rattle.board.specs.Layout.{widths};
 ghost use Rattle.numbers.specs.Numbers.{bytes};
 ghost use Rattle.window.specs.Kept.{unpack, unpacked};
@@ -71,11 +71,7 @@ fn holds(w: u64, space: Space, handle: u32, address: u32) -> bool
 fn offers(width: Width, widths: u8) -> bool
     ensures { λ r. ⌜ r ≡ offers (bytes width) widths ⌝ }
 {
-    match width {
-        Width::Byte => widths % 2 == 1,
-        Width::Word => widths / 2 % 2 == 1,
-        Width::Long => widths / 4 % 2 == 1,
-    }
+    widths as u32 / bytes_by_shift(width) % 2 == 1
 }
 
 // What is found in a window that holds the address.
@@ -126,6 +122,13 @@ fn in_list(
     Finding::Nothing
 }
 
+// Whether an address is a multiple of a width.
+fn is_aligned(address: u32, width: Width) -> bool
+    ensures { λ r. ⌜ r ≡ eqb (address % bytes width) 0 ⌝ }
+{
+    address % bytes_by_shift(width) == 0
+}
+
 // The window of a handle that holds an address, with so many cells lent.
 pub fn find_window(
     header: &Header,
@@ -142,14 +145,14 @@ pub fn find_window(
 {
     let good = is_handle(header, handle);
     let short = room < u32_at(offsets, WINDOWS) as usize;
-    let multiple = is_multiple(address.0, width);
+    let aligned = is_aligned(address.0, width);
     if !good {
         return Finding::BadHandle;
     }
     if short {
         return Finding::ShortCells;
     }
-    if !multiple {
+    if !aligned {
         return Finding::NotAligned;
     }
     in_list(records, windows, space, width, handle, address.0)

@@ -4,7 +4,7 @@ use mathlib.Core.List.{List, _++_}
 use Prim.Native.Nat.{ℕ, zero, suc, _+_, _-_, _*_, _/_, _%_, _<_, _≤_, _^_}
 use native.Mathlib.Omega.{arith}
 use native.Mathlib.Numerals.{add-one}
-use native.Mathlib.Nat.{add-zero, zero-add, pow-suc, pow-succ', div-one, div-div-eq-div-mul, one-le-pow}
+use native.Mathlib.Nat.{add-zero, zero-add, pow-suc, pow-succ', div-one, div-div-eq-div-mul, one-le-pow, mod-eq-of-lt}
 use lib.Dec.{lit<}
 use lib.Arith.{mod-mul}
 use lib.Pow.{pow-add}
@@ -122,6 +122,10 @@ pub reversed-back : (w v : ℕ) → reversed w (reversed w v) ≡ v % 256 ^ w
 unfolding reversed
 reversed-back w v =
     big-same w _ _ 0 0 (λ i h. rw (zero-add i) (big-digit w (λ j. v / 256 ^ j) 0 i h ∙ rw zero-add)) ∙ big-of w v
+
+-- the bytes of a number highest first, reversed, make the same bytes' number least first
+pub reversed-big : (w : ℕ) (f : ℕ → ℕ) (at : ℕ) → reversed w (big w f at) ≡ little w f at
+reversed-big w f at = rw (← reversed-little w f at) (reversed-back w (little w f at) ∙ mod-eq-of-lt (little-below w f at))
 
 -- the w bytes of a value, wherever they stand in a list, make the value modulo 256 ^ w
 pub big-bytes : (w v : ℕ) (before after : List ℕ) → big w (byteAt (before ++ (bigBytes w v ++ after))) (length before) ≡ v % 256 ^ w

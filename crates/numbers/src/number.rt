@@ -1,6 +1,6 @@
 // Bytes and the numbers that they make: total readers, 0 past the end, and powers of two.
 ghost use mathlib.Core.Path.{_≡_};
-ghost use Prim.Native.Nat.{_+_, _*_, _%_, _<_};
+ghost use Prim.Native.Nat.{_+_, _*_, _%_, _^_, _<_, _≤_};
 ghost use lib.Dec.{eqb};
 ghost use lib.ListN.{getD, set};
 ghost use lib.Seq.{sets};
@@ -22,6 +22,24 @@ pub fn bytes(width: Width) -> u8
         Width::Word => 2,
         Width::Long => 4,
     }
+}
+
+// The power of two that the bytes of a width are.
+fn exponent(width: Width) -> u8
+    ensures { λ r. ⌜ (2 ^ r ≡ bytes width) × (r < 3) ⌝ }
+{
+    match width {
+        Width::Byte => 0,
+        Width::Word => 1,
+        Width::Long => 2,
+    }
+}
+
+// The bytes of a width without a branch, for calls whose width changes from one to the next: a processor foresees such a branch badly.
+pub fn bytes_by_shift(width: Width) -> u32
+    ensures { λ r. ⌜ (r ≡ bytes width) × ((0 < r) × (r ≤ 4)) ⌝ }
+{
+    1u32 << exponent(width)
 }
 
 // Whether a number is a multiple of a width.

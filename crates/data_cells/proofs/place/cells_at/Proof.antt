@@ -28,8 +28,8 @@ cast-at-2 c = search needs
 add-at : tie.Need-add-at
 add-at c = search needs
 
-bytes-requires : tie.Need-bytes-requires
-bytes-requires c κs = search needs
+bytes-by-shift-requires : tie.Need-bytes-by-shift-requires
+bytes-by-shift-requires c κs = search needs
 
 cast-if1 : tie.Need-cast-if1
 cast-if1 c = search needs
@@ -38,10 +38,10 @@ add-if1 : tie.Need-add-if1
 add-if1 c = search needs
 
 returns : tie.Need-returns
-returns c = rw (← c .before .before .before .before .before .byte-order .ensures, ← c .before .before .before .u32-at .ensures, ← c .before .before .placed .ensures, ← c .before .bytes .ensures, lt-ltb _ _ (c .if1 .taken))
+returns c = rw (← c .before .before .before .before .before .byte-order .ensures, ← c .before .before .before .u32-at .ensures, ← c .before .before .placed .ensures, ← c .before .bytes-by-shift .ensures .0, lt-ltb _ _ (c .if1 .taken))
 
 returns-2 : tie.Need-returns-2
-returns-2 c = rw (← c .before .before .before .before .before .byte-order .ensures, ← c .before .before .before .u32-at .ensures, ← c .before .before .placed .ensures, ← c .before .bytes .ensures, le-ltb _ _ (c .if1 .left))
+returns-2 c = rw (← c .before .before .before .before .before .byte-order .ensures, ← c .before .before .before .u32-at .ensures, ← c .before .before .placed .ensures, ← c .before .bytes-by-shift .ensures .0, le-ltb _ _ (c .if1 .left))
 
 pub cells-at-spec : {M : Type 1} → statement M
 cells-at-spec =
@@ -55,7 +55,7 @@ cells-at-spec =
     placed-requires
     cast-at-2
     add-at
-    bytes-requires
+    bytes-by-shift-requires
     cast-if1
     add-if1
     returns

@@ -1,0 +1,41 @@
+-- What is found is found for a handle, so that its function stands one place before.
+use Prim.Native.Nat.{ℕ, _+_, _-_, _*_, _<_}
+use mathlib.Core.List.{List}
+use mathlib.Core.Path.{_≡_, refl, sym, _∙_}
+use lib.ListN.{getD}
+use Rattle.board.specs.Layout.{bases, byteOrder}
+use Rattle.board.proofs.Handles.{handle-place}
+use Rattle.find_window.specs.declared.find.Finding.{Finding}
+use Rattle.find_window.specs.declared.find.Finding.the-variants.{Found, BadHandle, ShortCells, NotAligned, Nothing, Contested, WidthMissing}
+use Rattle.find_window.specs.Find.{findIn}
+use Rattle.find_window.proofs.Meaning.{found-means}
+use Rattle.data_cells.specs.declared.place.Place.{Place}
+use Rattle.data_cells.specs.Cells.{placeOf, dataPlace}
+
+-- the cells for what was found in the windows of the function at a place
+abbrev placeIn : List ℕ → List ℕ → ℕ → ℕ → ℕ → Finding → Place
+placeIn records offsets room w function f = placeOf (λ b. getD offsets (bases * function + b) 0) (byteOrder records function) room w f
+
+-- only a finding of a window asks for the function
+found-only : (records offsets : List ℕ) (room w p q : ℕ) (f : Finding) → ((base distance remaining : ℕ) → f ≡ Found base distance remaining → p ≡ q)
+    → placeIn records offsets room w p f ≡ placeIn records offsets room w q f
+unfolding placeOf
+found-only records offsets room w p q (Found base distance remaining) h = rw (h base distance remaining refl)
+found-only records offsets room w p q BadHandle h = refl
+found-only records offsets room w p q ShortCells h = refl
+found-only records offsets room w p q NotAligned h = refl
+found-only records offsets room w p q Nothing h = refl
+found-only records offsets room w p q Contested h = refl
+found-only records offsets room w p q WidthMissing h = refl
+
+-- so the place for what is found is the access's, whatever the function's place is given as for a number that is no handle
+pub place-named : (header records windows offsets : List ℕ) (w room space handle address function : ℕ) (finding : Finding) (place : Place)
+    → finding ≡ findIn w header records windows offsets room space handle address
+    → (0 < handle → function ≡ handle - 1)
+    → place ≡ placeIn records offsets room w function finding
+    → place ≡ dataPlace w header records windows offsets room space handle address
+place-named header records windows offsets w room space handle address function finding place f h p =
+    p
+    ∙ found-only records offsets room w function (handle - 1) finding
+    (λ base distance remaining e. h (handle-place header handle (found-means _ _ _ _ _ _ _ _ base distance remaining (sym f ∙ e) .0 .0) .0))
+    ∙ rw f
