@@ -14,9 +14,11 @@ use Rattle.window_list.specs.Kept.{keptList}
 use Rattle.cells.specs.Cells.{zeroed}
 
 -- the registers after a load and after a reset: the reset values of the loaded records
+abbrev pub firstRegisters : List ℕ → ℕ → List ℕ
+firstRegisters records n = table n (λ j. recordByte records (j / registersEach) (j % registersEach))
+
 unfoldable pub registersOf : List ℕ → List ℕ
-registersOf records =
-    table (functionsMax * registersEach) (λ j. recordByte records (j / registersEach) (j % registersEach))
+registersOf records = firstRegisters records (functionsMax * registersEach)
 
 -- registers copied, as many cells zeroed as the windows need, hooks and marks cleared; the window list is worked out anew
 unfoldable pub restarted : List ℕ → List ℕ → List ℕ → List ℕ → Parts

@@ -12,26 +12,39 @@ use board::layout::Registers;
 use board::layout::Used;
 use board::layout::WINDOWS;
 use board::layout::Windows;
-use numbers::number::byte_at;
 use numbers::number::u32_at;
 use window_list::refresh::refresh;
 ghost use mathlib.Core.Path.{_≡_};
-ghost use Prim.Native.Nat.{_*_, _≤_};
-ghost use lib.ListN.{length, getD};
-ghost use Rattle.board.specs.Layout.{functionsMax, registersEach, windowsMax};
+ghost use Prim.Native.Nat.{_+_, _*_, _<_, _≤_};
+ghost use lib.ListN.{length, getD, take};
+ghost use Rattle.board.specs.Layout.{functionsMax, recordSize, registersEach, windowsMax};
 ghost use Rattle.board.specs.Parts.{parts};
 ghost use Rattle.cells.specs.Cells.{zeroed};
-ghost use Rattle.reset.specs.Reset.{registersOf, restarted};
+ghost use Rattle.reset.specs.Reset.{firstRegisters, registersOf, restarted};
+
+// The reset values of one function into its registers, after those of the functions before it.
+fn copy_function(records: &[u8], registers: &mut [u8], function: usize)
+    requires { ⌜ (function < functionsMax) × (((length (now records) ≡ functionsMax * recordSize) × (length (now registers) ≡ functionsMax * registersEach)) × (take (registersEach * function) (now registers) ≡ firstRegisters (now records) (registersEach * function))) ⌝ }
+    ensures { λ _. ⌜ (length (now (registers .exit)) ≡ functionsMax * registersEach) × (take (registersEach * (function + 1)) (now (registers .exit)) ≡ firstRegisters (now (records .entry)) (registersEach * (function + 1))) ⌝ }
+{
+    let from = RECORD * function;
+    let to = REGISTER_BYTES * function;
+    let mut i = 0;
+    while i < REGISTER_BYTES {
+        registers[to + i] = records[from + i];
+        i += 1;
+    }
+}
 
 // The reset values of all functions into the registers.
 fn copy_registers(records: &[u8], registers: &mut [u8])
-    requires { ⌜ length (now registers) ≡ functionsMax * registersEach ⌝ }
+    requires { ⌜ (length (now records) ≡ functionsMax * recordSize) × (length (now registers) ≡ functionsMax * registersEach) ⌝ }
     ensures { λ _. ⌜ now (registers .exit) ≡ registersOf (now (records .entry)) ⌝ }
 {
-    let mut j = 0;
-    while j < registers.len() {
-        registers[j] = byte_at(records, RECORD * (j / REGISTER_BYTES) + j % REGISTER_BYTES);
-        j += 1;
+    let mut function = 0;
+    while function < FUNCTIONS {
+        copy_function(records, registers, function);
+        function += 1;
     }
 }
 
