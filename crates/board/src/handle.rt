@@ -30,7 +30,7 @@ pub fn place(handle: u32) -> u32
     if handle == 0 { 0 } else { handle - 1 }
 }
 
-// The same of a handle, without a test: of 0 it is a number that no function has.
+// The same of a number that is not 0, without a test.
 pub fn place_of_handle(handle: u32) -> u32
     ensures { λ r. ⌜ (0 < handle → r ≡ handle - 1) ⌝ }
 {

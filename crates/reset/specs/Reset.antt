@@ -13,10 +13,11 @@ use Rattle.window_list.specs.Windows.{windowList}
 use Rattle.window_list.specs.Kept.{keptList}
 use Rattle.cells.specs.Cells.{zeroed}
 
--- the registers after a load and after a reset: the reset values of the loaded records
+-- the first n registers after a load and after a reset: the reset values of the loaded records
 abbrev pub firstRegisters : List ℕ → ℕ → List ℕ
 firstRegisters records n = table n (λ j. recordByte records (j / registersEach) (j % registersEach))
 
+-- and all of them
 unfoldable pub registersOf : List ℕ → List ℕ
 registersOf records = firstRegisters records (functionsMax * registersEach)
 
