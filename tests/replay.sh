@@ -35,6 +35,12 @@ for source in tests/replay/*.calls; do
 done
 # What is none, though it is long enough: B1's image.
 same tests/replay/opening-cut.out crates/windows/stdin
+# A trace but for the last letter of its magic.
+printf 'PCIU\0\0\0\1\0\0\0\0' > "$made/magic.trace"
+same tests/replay/opening-cut.out "$made/magic.trace"
 # The stored standard input of the program's own run is B1's trace.
 cmp crates/replay/stdin "$made/b1.trace" || fail "crates/replay/stdin is not the trace of tests/replay/b1.calls"
+# A source that is none ends the maker with a fault.
+! echo 'reset' | "$makers/make_trace" > "$made/none.trace" 2> "$made/none.fault" || fail "make_trace takes a source that is none"
+[ "$(cat "$made/none.fault")" = 'make_trace: 1: `reset` is no statement' ] || fail "make_trace says: $(cat "$made/none.fault")"
 echo "replay: $traces traces, equal"

@@ -59,7 +59,10 @@ pub fn parsed(line: &str) -> Result<Call, String> {
     let (&(_, operation, space, places), width) = found.ok_or(format!("no call `{name}`"))?;
     let mut call = Call { header: [0; HEADER_LENGTH], own: 0, is_load: operation == 1 };
     call.header[..3].copy_from_slice(&[operation, width, space]);
-    let words: Vec<&str> = arguments.split(", ").filter(|word| !word.is_empty()).collect();
+    let words: Vec<&str> = match arguments {
+        "" => Vec::new(),
+        _ => arguments.split(", ").collect(),
+    };
     if words.len() != places.len() {
         return Err(format!("`{name}` has {} arguments", places.len()));
     }
@@ -90,9 +93,8 @@ impl Call {
             Own => {
                 let bytes =
                     word.strip_suffix(" bytes").ok_or(format!("`{word}`: how many bytes?"))?;
-                let own = number(bytes, u32::MAX)?;
-                self.own = own as usize;
-                self.put(60, own);
+                self.own = size(bytes)?;
+                self.put(60, self.own as u32);
             }
         }
         Ok(())
@@ -105,12 +107,18 @@ impl Call {
 
 /// A number up to the given one: hexadecimal after `0x`, else decimal.
 pub fn number(word: &str, most: u32) -> Result<u32, String> {
-    let number = match word.strip_prefix("0x") {
-        Some(digits) => u32::from_str_radix(digits, 16),
-        None => word.parse(),
+    let (digits, radix) = match word.strip_prefix("0x") {
+        Some(digits) => (digits, 16),
+        None => (word, 10),
     };
-    let fits = number.ok().filter(|&number| number <= most);
+    let number = u32::from_str_radix(digits, radix).ok();
+    let fits = number.filter(|&number| number <= most && !digits.starts_with('+'));
     fits.ok_or(format!("`{word}` is no number up to {most:#x}"))
+}
+
+/// A number of bytes, or a place among them; no trace needs more than 2^20.
+pub fn size(word: &str) -> Result<usize, String> {
+    number(word, 1 << 20).map(|number| number as usize)
 }
 
 #[cfg(test)]
@@ -140,7 +148,14 @@ mod tests {
         assert_eq!(fault("reset("), "`reset(` has no `)` at its end");
         assert_eq!(fault("reset(1)"), "`reset` has 0 arguments");
         assert_eq!(fault("read_config(1, 0x10)"), "no call `read_config`");
+        assert_eq!(fault("list_window(1, )"), "`list_window` has 1 arguments");
+        assert_eq!(fault("list_window()"), "`list_window` has 1 arguments");
+        assert_eq!(fault("list_window(+1)"), "`+1` is no number up to 0xffffffff");
+        assert_eq!(fault("list_window(0x+1)"), "`0x+1` is no number up to 0xffffffff");
+        assert_eq!(fault("read_config_(1, 0x10)"), "no call `read_config_`");
+        assert_eq!(fault("resetbyte()"), "no call `resetbyte`");
         assert_eq!(fault("read_config_byte(1, 0x100)"), "`0x100` is no number up to 0xff");
         assert_eq!(fault("load(12)"), "`12`: how many bytes?");
+        assert_eq!(fault("load(0x100001 bytes)"), "`0x100001` is no number up to 0x100000");
     }
 }

@@ -1,6 +1,6 @@
 //! The line format of the sources in tests/replay/, described in its README.md.
 
-use crate::call::{self, number, Call};
+use crate::call::{self, number, size, Call};
 
 const MAGIC: &[u8] = b"PCIT";
 
@@ -83,11 +83,6 @@ impl Maker {
     }
 }
 
-/// A number of bytes, or a place among them.
-fn size(word: &str) -> Result<usize, String> {
-    number(word, 1 << 20).map(|number| number as usize)
-}
-
 fn byte(word: &str) -> Result<u8, String> {
     number(word, 0xFF).map(|number| number as u8)
 }
@@ -109,6 +104,8 @@ mod tests {
             parsed("version 2\nlength 0x10001").unwrap_or_default(),
             b"PCIT\0\0\0\x02\0\x01\0\x01"
         );
+        assert_eq!(parsed("fill 1\nload(2 bytes)").unwrap_or_default()[76..], [0, 0]);
+        assert_eq!(parsed("cut 13"), Ok(Vec::new()));
     }
 
     #[test]
@@ -117,6 +114,11 @@ mod tests {
         assert_eq!(fault("cells 1 256"), "1: `256` is no number up to 0xff");
         assert_eq!(fault("\nbytes 1"), "2: `bytes 1` is no statement");
         assert_eq!(fault("byte 0 1"), "1: the image has no such byte");
+        assert_eq!(fault("script 256"), "1: `256` is no number up to 0xff");
+        assert_eq!(fault("cells 0x100001 0"), "1: `0x100001` is no number up to 0x100000");
+        assert_eq!(fault("cells 1 2 3"), "1: `cells 1 2 3` is no statement");
+        assert_eq!(fault("fill 1 2"), "1: `fill 1 2` is no statement");
+        assert!(fault("image none").starts_with("1: none: "));
         assert_eq!(fault("list_window()"), "1: `list_window` has 1 arguments");
     }
 }
