@@ -10,7 +10,6 @@ use window::kept::is_io;
 use window::kept::length_of;
 use window::kept::start_of;
 ghost use mathlib.Core.Path.{_≡_};
-ghost use lib.Dec.{ltb};
 ghost use lib.ListN.{length};
 ghost use Rattle.window.specs.Kept.{unpack, unpacked};
 ghost use Rattle.window_listing.specs.Listing.{inSpace, found, Lists};
@@ -32,21 +31,18 @@ pub enum Listing {
     Refused(Status),
 }
 
-// Whether a kept list has a window n: none of its numbers up to there is no window.
-fn is_kept(list: &[u64], n: u32) -> bool
-    ensures { λ r. ⌜ r ≡ ltb n (length (unpacked (now (list .entry)))) ⌝ }
+// How many windows a kept list has: those before the first number that is no window.
+fn kept_count(list: &[u64]) -> usize
+    ensures { λ r. ⌜ r ≡ length (unpacked (now (list .entry))) ⌝ }
 {
     let mut j = 0;
     while j < list.len() {
         if length_of(list[j]) == 0 {
-            return false;
-        }
-        if n as usize == j {
-            return true;
+            return j;
         }
         j += 1;
     }
-    false
+    j
 }
 
 fn in_space(io: bool, start: u32, length: u32) -> ListedWindow
@@ -80,7 +76,7 @@ fn listed(w: u64) -> Listing
 pub fn list_window(windows: &Windows, n: u32) -> Listing
     ensures { λ r. ⌜ Lists (unpacked (now (windows .entry))) n r ⌝ }
 {
-    if !is_kept(windows, n) {
+    if kept_count(windows) <= n as usize {
         return Listing::Refused(Status::DEVICE_NOT_FOUND);
     }
     listed(u64_at(windows, n as usize))
