@@ -1,4 +1,4 @@
-// Numbers in cells. All their cells are there, so that none is tested for when they are read or written.
+// Numbers in cells, highest byte first but for those called little. All their cells are there, so that none is tested for when they are read or written.
 use byte_order::order::REVERSED_BYTES;
 use numbers::number::Width;
 use numbers::number::wide;

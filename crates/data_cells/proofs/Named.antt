@@ -1,20 +1,14 @@
 -- What is found is found for a handle, so that its function stands one place before.
-use Prim.Native.Nat.{ℕ, _+_, _-_, _*_, _<_}
+use Prim.Native.Nat.{ℕ, _-_, _<_}
 use mathlib.Core.List.{List}
 use mathlib.Core.Path.{_≡_, refl, sym, _∙_}
-use lib.ListN.{getD}
-use Rattle.board.specs.Layout.{bases, byteOrder}
 use Rattle.board.proofs.Handles.{handle-place}
 use Rattle.find_window.specs.declared.find.Finding.{Finding}
 use Rattle.find_window.specs.declared.find.Finding.the-variants.{Found, BadHandle, ShortCells, NotAligned, Nothing, Contested, WidthMissing}
 use Rattle.find_window.specs.Find.{findIn}
 use Rattle.find_window.proofs.Meaning.{found-means}
 use Rattle.data_cells.specs.declared.place.Place.{Place}
-use Rattle.data_cells.specs.Cells.{placeOf, dataPlace}
-
--- the cells for what was found in the windows of the function at a place
-abbrev placeIn : List ℕ → List ℕ → ℕ → ℕ → ℕ → Finding → Place
-placeIn records offsets room w function f = placeOf (λ b. getD offsets (bases * function + b) 0) (byteOrder records function) room w f
+use Rattle.data_cells.specs.Cells.{placeOf, placeIn, dataPlace}
 
 -- only a finding of a window asks for the function
 found-only : (records offsets : List ℕ) (room w p q : ℕ) (f : Finding) → ((base distance remaining : ℕ) → f ≡ Found base distance remaining → p ≡ q)

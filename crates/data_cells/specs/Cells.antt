@@ -30,11 +30,14 @@ placeOf begins orders room w Nothing = Refused (statusOf Nothing)
 placeOf begins orders room w Contested = Refused (statusOf Contested)
 placeOf begins orders room w WidthMissing = Refused (statusOf WidthMissing)
 
--- of the lent parts, with so many cells lent
+-- of the lent parts, for what was found in the windows of the function at a place, with so many cells lent
+abbrev pub placeIn : List ℕ → List ℕ → ℕ → ℕ → ℕ → Finding → Place
+placeIn records offsets room w function finding =
+    placeOf (λ b. getD offsets (bases * function + b) 0) (byteOrder records function) room w finding
+
 abbrev pub dataPlace : ℕ → List ℕ → List ℕ → List ℕ → List ℕ → ℕ → ℕ → ℕ → ℕ → Place
 dataPlace w header records windows offsets room space handle address =
-    placeOf (λ b. getD offsets (bases * (handle - 1) + b) 0) (byteOrder records (handle - 1)) room w
-    (findIn w header records windows offsets room space handle address)
+    placeIn records offsets room w (handle - 1) (findIn w header records windows offsets room space handle address)
 
 -- cells are read high byte first
 abbrev pub valueAt : ℕ → ℕ → ℕ → List ℕ → ℕ

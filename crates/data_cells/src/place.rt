@@ -21,7 +21,7 @@ ghost use Prim.Native.Nat.{_+_, _*_};
 ghost use Rattle.board.specs.Layout.{bases, byteOrder};
 ghost use Rattle.numbers.specs.Numbers.{bytes};
 ghost use Rattle.find_window.specs.Find.{spaceNumber};
-ghost use Rattle.data_cells.specs.Cells.{cellsAt, placeOf, dataPlace};
+ghost use Rattle.data_cells.specs.Cells.{cellsAt, placeIn, dataPlace};
 
 // The first cell and the byte order of an access, or the refusal.
 pub enum Place {
@@ -62,7 +62,7 @@ pub fn place_of(
     function: u32,
     finding: Finding,
 ) -> Place
-    ensures { λ r. ⌜ r ≡ placeOf (λ b. getD (now (offsets .entry)) (bases * function + b) 0) (byteOrder (now (records .entry)) function) room (bytes width) finding ⌝ }
+    ensures { λ r. ⌜ r ≡ placeIn (now (records .entry)) (now (offsets .entry)) room (bytes width) function finding ⌝ }
 {
     match finding {
         Finding::Found {
