@@ -8,8 +8,8 @@ use Rattle.window_listing.specs.declared.listing.Listing.{Listing}
 use Rattle.hooks.specs.Hooks.{Hook}
 use Rattle.chain_listing.specs.Listing.{chainNumberOf, chainValuesOf, ListsChain}
 use Rattle.chain_listing.specs.declared.listing.ChainListing.{ChainListing}
-use Rattle.reference.specs.declared.Answer.{Answer}
-use Rattle.reference.specs.Answers.{answer, ofChain}
+use Rattle.call.specs.declared.answer.Answer.{Answer}
+use Rattle.call.specs.Answers.{answer, ofChain}
 use Rattle.bios.specs.Exports.{shown, shownWindow, shownHook}
 
 pub list-shown : (l : List Window) (n : ℕ) (r : Listing) (a : Answer) → Lists l n r → a ≡ answer (numberOf r) (valuesOf r)

@@ -1,6 +1,4 @@
 // Searches and configuration calls for C. A width is a number here; another than 1, 2 or 4 is refused before all else.
-use answers::searches::class_answer;
-use answers::searches::device_answer;
 use asked_width::width::AskedWidth;
 use asked_width::width::width_of;
 use board::layout::Header;
@@ -8,6 +6,8 @@ use board::layout::Records;
 use board::layout::Registers;
 use board::layout::Windows;
 use board::status::Status;
+use call::searches::class_answer;
+use call::searches::device_answer;
 use config::write::write_config;
 use config_read::read::fast_read_config;
 use config_read::read::read_config;

@@ -1,5 +1,4 @@
 // Calls for C: numbers and lent memory in, numbers out. A slice is a pointer and a length, an array or a place for a number is a pointer.
-use answers::answer::of_listing;
 use board::layout::CellOffsets;
 use board::layout::Header;
 use board::layout::Hooks;
@@ -7,10 +6,11 @@ use board::layout::Records;
 use board::layout::Registers;
 use board::layout::Used;
 use board::layout::Windows;
+use call::answer::Values;
+use call::answer::of_listing;
 use image::check::check_image;
 use image_writer::write::write_image;
 use load::calls::load;
-use reference::Values;
 use reset::reset::reset;
 use window_listing::listing::list_window;
 ghost use mathlib.Core.Path.{_≡_};

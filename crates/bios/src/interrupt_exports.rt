@@ -1,15 +1,15 @@
 // Hooks, chains and used marks for C, and the calls that always give -2.
-use answers::answer::of_chain;
 use board::layout::Header;
 use board::layout::Hooks;
 use board::layout::Records;
 use board::layout::Used;
+use call::answer::Values;
+use call::answer::of_chain;
 use card_used::used::get_card_used;
 use card_used::used::set_card_used;
 use chain_listing::listing::list_chain;
 use interrupt::chain::hook_interrupt;
 use interrupt::chain::unhook_interrupt;
-use reference::Values;
 use unsupported::unsupported::get_routing;
 use unsupported::unsupported::set_interrupt;
 use unsupported::unsupported::special_cycle;

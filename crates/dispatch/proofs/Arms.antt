@@ -19,16 +19,22 @@ use Rattle.reset.specs.Reset.{resetTo, reset}
 use Rattle.load.specs.Load.{loaded, load}
 use Rattle.image_writer.specs.Write.{written, write}
 use Rattle.refusals.specs.declared.verdict.Verdict.{Verdict}
-use Rattle.reference.specs.declared.Answer.{Answer}
-use Rattle.reference.specs.declared.Call.{Call}
-use Rattle.reference.specs.declared.Call.the-variants.{Load, Reset, WriteImage, WriteConfig, WriteData, GetResource, SetCardUsed}
-use Rattle.reference.specs.Answers.{answer, one, ofStatus}
-use Rattle.reference.specs.State.{next, step}
+use Rattle.call.specs.declared.answer.Answer.{Answer}
+use Rattle.call.specs.declared.call.Call.{Call}
+use Rattle.call.specs.declared.call.Call.the-variants.{Load, Reset, WriteImage, Config, Data, GetResource, SetCardUsed, Ask}
+use Rattle.call.specs.declared.call.Query.{Query}
+use Rattle.call.specs.declared.call.Access.{Access}
+use Rattle.call.specs.Answers.{answer, one, ofStatus}
+use Rattle.reference.specs.State.{next, step, queried, blanked, configured, configAccess, stored, dataAccess}
 
--- a call that leaves every lent part and its own buffer: its answer is made of what its function gives
-pub arm-told : {A : Type 0} (of : A → Answer) (p : Parts) (own : List ℕ) (c d : Call) (v w : A) (r : Answer) → c ≡ d → r ≡ of v → v ≡ w
-    → step p d own ≡ next (of w) p own → next r p own ≡ step p c own
-arm-told of p own c d v w r e a k s = rw (e, a, k) (sym s)
+-- a query: its answer is made of what its function gives
+pub arm-asked : {A : Type 0} (of : A → Answer) (p : Parts) (q d : Query) (v w : A) (r : Answer) → q ≡ d → r ≡ of v → v ≡ w → queried p d ≡ of w
+    → r ≡ queried p q
+arm-asked of p q d v w r e a k s = rw (e, a, k) (sym s)
+
+pub arm-ask : (p : Parts) (own : List ℕ) (c : Call) (q : Query) (r : Answer) → c ≡ Ask q → r ≡ queried (blanked p) q → next r p own ≡ step p c own
+unfolding step
+arm-ask p own c q r e a = rw (e, a)
 
 pub arm-load : (p q : Parts) (own : List ℕ) (c : Call) (v : Verdict) (r : Answer) → c ≡ Load
     → r ≡ answer (pos (v .number)) (one (v .place)) → loaded v q ≡ load p own → next r q own ≡ step p c own
@@ -45,19 +51,19 @@ pub arm-write : (p : Parts) (own out : List ℕ) (c : Call) (n : ℕ) (r : Answe
 unfolding step
 arm-write p own out c n r e a w = rw (e, a, ← w)
 
-pub arm-write-config : (p : Parts) (own registers windows : List ℕ) (c : Call) (w : Width) (h register value : ℕ) (s : Status) (r : Answer)
-    → c ≡ WriteConfig w h register value → r ≡ ofStatus s
-    → wrote s registers windows ≡ writeConfig (bytes w) (p .header) (p .records) (p .registers) (p .windows) h register value
+pub arm-config : (p : Parts) (own registers windows : List ℕ) (c : Call) (w : Width) (h register : ℕ) (access : Access) (r : Answer)
+    → c ≡ Config w h register access
+    → configured r registers windows ≡ configAccess (p .header) (p .records) (p .registers) (p .windows) w h register access
     → next r (withRegisters registers windows p) own ≡ step p c own
 unfolding step
-arm-write-config p own registers windows c w h register value s r e a k = rw (e, a, ← k)
+arm-config p own registers windows c w h register access r e k = rw (e, ← k)
 
-pub arm-write-data : (p : Parts) (own cells : List ℕ) (c : Call) (space : Space) (w : Width) (h : ℕ) (address : BusAddress) (value : ℕ) (s : Status) (r : Answer)
-    → c ≡ WriteData space w h address value → r ≡ ofStatus s
-    → dataWrote s cells ≡ writeData (bytes w) (p .header) (p .records) (p .windows) (p .cellOffsets) (p .cells) (spaceNumber space) h (address .0) value
+pub arm-data : (p : Parts) (own cells : List ℕ) (c : Call) (space : Space) (w : Width) (h : ℕ) (address : BusAddress) (access : Access) (r : Answer)
+    → c ≡ Data space w h address access
+    → stored r cells ≡ dataAccess (p .header) (p .records) (p .windows) (p .cellOffsets) (p .cells) space w h address access
     → next r (withCells cells p) own ≡ step p c own
 unfolding step
-arm-write-data p own cells c space w h address value s r e a k = rw (e, a, ← k)
+arm-data p own cells c space w h address access r e k = rw (e, ← k)
 
 -- the descriptors go to the call's own buffer
 pub arm-resource : (p : Parts) (own out : List ℕ) (c : Call) (h : ℕ) (s : Status) (r : Answer) → c ≡ GetResource h → r ≡ ofStatus s

@@ -1,18 +1,7 @@
 // Every call on a board through one function.
-use access::data::fast_read_data;
-use access::data::read_data;
-use access::data::write_data;
-use answers::answer::of_chain;
-use answers::answer::of_fast_read;
-use answers::answer::of_listing;
-use answers::answer::of_number;
-use answers::answer::of_read;
-use answers::answer::of_status;
-use answers::answer::of_to_bus;
-use answers::answer::of_to_cpu;
-use answers::answer::of_used;
-use answers::searches::class_answer;
-use answers::searches::device_answer;
+use crate::ask::ask;
+use crate::through::config;
+use crate::through::data;
 use board::layout::CellOffsets;
 use board::layout::Header;
 use board::layout::Hooks;
@@ -20,26 +9,17 @@ use board::layout::Records;
 use board::layout::Registers;
 use board::layout::Used;
 use board::layout::Windows;
-use card_used::used::get_card_used;
+use call::answer::Answer;
+use call::answer::of_number;
+use call::answer::of_status;
+use call::call::Call;
 use card_used::used::set_card_used;
-use chain_listing::listing::list_chain;
-use config::write::write_config;
-use config_read::read::fast_read_config;
-use config_read::read::read_config;
-use conversions::convert::bus_to_cpu;
-use conversions::convert::cpu_to_bus;
 use image_writer::write::write_image;
 use interrupt::chain::hook_interrupt;
 use interrupt::chain::unhook_interrupt;
 use load::calls::load;
-use reference::Answer;
-use reference::Call;
 use reset::reset::reset;
 use resource::resource::get_resource;
-use unsupported::unsupported::get_routing;
-use unsupported::unsupported::set_interrupt;
-use unsupported::unsupported::special_cycle;
-use window_listing::listing::list_window;
 ghost use mathlib.Core.Path.{_≡_};
 ghost use Rattle.board.specs.Parts.{parts};
 ghost use Rattle.reference.specs.State.{next, step};
@@ -87,103 +67,39 @@ pub fn perform(
             ))
         }
         Call::WriteImage => of_number(write_image(header, records, own), 0),
-        Call::FindPciDevice { id, index } => { device_answer(header, registers, id, index) }
-        Call::FindPciClasscode { class, index } => { class_answer(header, registers, class, index) }
-        Call::ReadConfig {
+        Call::Config {
             width,
             handle,
             register,
-        } => { of_read(read_config(header, registers, width, handle, register)) }
-        Call::FastReadConfig {
-            width,
-            handle,
-            register,
-        } => { of_fast_read(fast_read_config(header, registers, width, handle, register)) }
-        Call::WriteConfig {
-            width,
-            handle,
-            register,
-            value,
-        } => {
-            of_status(write_config(
-                header,
-                records,
-                registers,
-                windows,
-                width,
-                handle,
-                register,
-                value,
-            ))
-        }
-        Call::ReadData {
-            space,
-            width,
-            handle,
-            address,
-        } => {
-            of_read(read_data(
-                header,
-                records,
-                windows,
-                offsets,
-                cells,
-                space,
-                width,
-                handle,
-                address,
-            ))
-        }
-        Call::FastReadData {
-            space,
-            width,
-            handle,
-            address,
-        } => {
-            of_fast_read(fast_read_data(
-                header,
-                records,
-                windows,
-                offsets,
-                cells,
-                space,
-                width,
-                handle,
-                address,
-            ))
-        }
-        Call::WriteData {
-            space,
-            width,
-            handle,
-            address,
-            value,
-        } => {
-            of_status(write_data(
-                header,
-                records,
-                windows,
-                offsets,
-                cells,
-                space,
-                width,
-                handle,
-                address,
-                value,
-            ))
-        }
-        Call::BusToCpu { handle, address } => of_to_cpu(bus_to_cpu(
+            access,
+        } => config(
             header,
             records,
+            registers,
+            windows,
+            width,
+            handle,
+            register,
+            access,
+        ),
+        Call::Data {
+            space,
+            width,
             handle,
             address,
-        )),
-        Call::CpuToBus { handle, address } => of_to_bus(cpu_to_bus(
+            access,
+        } => data(
             header,
             records,
+            windows,
+            offsets,
+            cells,
+            space,
+            width,
             handle,
             address,
-        )),
+            access,
+        ),
         Call::GetResource { handle } => of_status(get_resource(
             header,
             records,
@@ -198,16 +114,11 @@ pub fn perform(
             parameter,
         } => of_status(hook_interrupt(header, records, hooks, handle, handler, parameter)),
         Call::UnhookInterrupt { handle } => of_status(unhook_interrupt(header, hooks, handle)),
-        Call::ListChain { line, place } => of_chain(list_chain(records, hooks, line, place)),
-        Call::GetCardUsed { handle } => of_used(get_card_used(header, used, handle)),
         Call::SetCardUsed {
             handle,
             status,
             call_back,
         } => of_status(set_card_used(header, used, handle, status, call_back)),
-        Call::SpecialCycle { bus, message } => of_status(special_cycle(bus, message)),
-        Call::GetRouting { handle } => of_status(get_routing(handle)),
-        Call::SetInterrupt { handle, mode } => of_status(set_interrupt(handle, mode)),
-        Call::ListWindow { n } => of_listing(list_window(windows, n)),
+        Call::Ask(query) => ask(query, header, records, registers, windows, hooks, used),
     }
 }

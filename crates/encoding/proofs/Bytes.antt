@@ -14,9 +14,9 @@ use Rattle.numbers.proofs.Tests.{both-true}
 use Rattle.encoding.specs.declared.fields.Fields.{Fields}
 use Rattle.encoding.specs.declared.decode.Decoded.the-variants.{Known, Malformed}
 use mir.Val.{boolByte}
-use Rattle.reference.proofs.Signed.{bool-number}
-use Rattle.reference.specs.declared.Answer.{Answer}
-use Rattle.reference.specs.declared.Call.{Call}
+use Rattle.call.proofs.Signed.{bool-number}
+use Rattle.call.specs.declared.answer.Answer.{Answer}
+use Rattle.call.specs.declared.call.Call.{Call}
 use Rattle.encoding.specs.Format.{bits, valueBytes, answerBytes, fieldsOf, candidate, headerOf, encoded, fieldsAt, ownLength, sameBytes, decoded}
 
 pub header-put : (f : Fields) (own : ℕ) {h a b all : List ℕ}

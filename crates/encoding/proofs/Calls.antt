@@ -6,8 +6,10 @@ use mathlib.Core.Path.{_≡_, refl, sym}
 use lib.Dec.{ltb}
 use lib.ListN.{length, getD, List·getD-eq-default}
 use borrow.Author.Tests.{ltb-true, ltb-false}
-use Rattle.reference.specs.declared.Call.{Call}
-use Rattle.reference.specs.declared.Call.the-variants.{Load, Reset, WriteImage, FindPciDevice, FindPciClasscode, ReadConfig, FastReadConfig, WriteConfig, ReadData, FastReadData, WriteData, BusToCpu, CpuToBus, ListWindow, GetResource, HookInterrupt, UnhookInterrupt, ListChain, GetCardUsed, SetCardUsed, SpecialCycle, GetRouting, SetInterrupt}
+use Rattle.call.specs.declared.call.Call.{Call}
+use Rattle.call.specs.declared.call.Access.the-variants.{Read, FastRead, Write}
+use Rattle.call.specs.declared.call.Call.the-variants.{Load, Reset, WriteImage, Config, Data, GetResource, HookInterrupt, UnhookInterrupt, SetCardUsed, Ask}
+use Rattle.call.specs.declared.call.Query.the-variants.{FindPciDevice, FindPciClasscode, BusToCpu, CpuToBus, ListWindow, ListChain, GetCardUsed, SpecialCycle, GetRouting, SetInterrupt}
 use Rattle.encoding.specs.declared.fields.Fields.{Fields}
 use Rattle.numbers.specs.Numbers.{bytes}
 use Rattle.numbers.specs.declared.number.Width.{Width}
@@ -16,7 +18,6 @@ use Rattle.find_window.specs.Find.{spaceNumber}
 use Rattle.find_window.specs.declared.find.Space.{Space}
 use Rattle.find_window.specs.declared.find.Space.the-variants.{Memory, Io}
 use Rattle.encoding.specs.Format.{fieldsOf, widthOf, spaceOf, calls, candidate}
-use Rattle.encoding.specs.Meaning.{U32, Holds}
 
 -- none of the numbers 1 to n
 abbrev pub NoneOf : ℕ → ℕ → Type 0
@@ -51,54 +52,23 @@ unfolding candidate
 picked Load = refl
 picked Reset = refl
 picked WriteImage = refl
-picked (FindPciDevice id index) = refl
-picked (FindPciClasscode class index) = refl
-picked (ReadConfig w h r) = rw (width-back w)
-picked (FastReadConfig w h r) = rw (width-back w)
-picked (WriteConfig w h r v) = rw (width-back w)
-picked (ReadData s w h a) = rw (space-back s, width-back w)
-picked (FastReadData s w h a) = rw (space-back s, width-back w)
-picked (WriteData s w h a v) = rw (space-back s, width-back w)
-picked (BusToCpu h a) = refl
-picked (CpuToBus h a) = refl
-picked (ListWindow n) = refl
+picked (Ask (FindPciDevice id index)) = refl
+picked (Ask (FindPciClasscode class index)) = refl
+picked (Config w h r Read) = rw (width-back w)
+picked (Config w h r FastRead) = rw (width-back w)
+picked (Config w h r (Write v)) = rw (width-back w)
+picked (Data s w h a Read) = rw (space-back s, width-back w)
+picked (Data s w h a FastRead) = rw (space-back s, width-back w)
+picked (Data s w h a (Write v)) = rw (space-back s, width-back w)
+picked (Ask (BusToCpu h a)) = refl
+picked (Ask (CpuToBus h a)) = refl
+picked (Ask (ListWindow n)) = refl
 picked (GetResource handle) = refl
 picked (HookInterrupt handle handler parameter) = refl
 picked (UnhookInterrupt handle) = refl
-picked (ListChain line place) = refl
-picked (GetCardUsed handle) = refl
+picked (Ask (ListChain line place)) = refl
+picked (Ask (GetCardUsed handle)) = refl
 picked (SetCardUsed handle status callBack) = refl
-picked (SpecialCycle bus message) = refl
-picked (GetRouting handle) = refl
-picked (SetInterrupt handle mode) = refl
-
--- the fields that take four bytes fit there
-pub record Fits (f : Fields) : Type 0 where
-  pub handle : U32 (f .handle)
-  pub a : U32 (f .a)
-  pub b : U32 (f .b)
-
-pub fits : (c : Call) → Holds c → Fits (fieldsOf c)
-fits Load h = omega arith
-fits Reset h = omega arith
-fits WriteImage h = omega arith
-fits (FindPciDevice id index) h = omega arith
-fits (FindPciClasscode class index) h = omega arith
-fits (ReadConfig width handle register) h = omega arith
-fits (FastReadConfig width handle register) h = omega arith
-fits (WriteConfig width handle register value) h = omega arith
-fits (ReadData space width handle address) h = omega arith
-fits (FastReadData space width handle address) h = omega arith
-fits (WriteData space width handle address value) h = omega arith
-fits (BusToCpu handle address) h = omega arith
-fits (CpuToBus handle address) h = omega arith
-fits (ListWindow n) h = omega arith
-fits (GetResource handle) h = omega arith
-fits (HookInterrupt handle handler parameter) h = omega arith
-fits (UnhookInterrupt handle) h = omega arith
-fits (ListChain line place) h = omega arith
-fits (GetCardUsed handle) h = omega arith
-fits (SetCardUsed handle status callBack) h = omega arith
-fits (SpecialCycle bus message) h = omega arith
-fits (GetRouting handle) h = omega arith
-fits (SetInterrupt handle mode) h = omega arith
+picked (Ask (SpecialCycle bus message)) = refl
+picked (Ask (GetRouting handle)) = refl
+picked (Ask (SetInterrupt handle mode)) = refl

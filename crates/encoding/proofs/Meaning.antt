@@ -11,9 +11,9 @@ use Rattle.numbers.proofs.Numbers.{big-bytes}
 use Rattle.encoding.specs.declared.decode.Decoded.the-variants.{Known, Malformed}
 use Rattle.encoding.specs.declared.fields.Fields.{Fields}
 use Rattle.encoding.specs.Format.{fieldsOf, candidate, headerOf, encoded, fieldsAt, ownLength, sameBytes, decoded}
-use Rattle.encoding.specs.Meaning.{U32, EncodeDecode, DecodeEncode}
+use Rattle.encoding.specs.Meaning.{U32, Fits, EncodeDecode, DecodeEncode}
 use Rattle.encoding.proofs.Bytes.{same-refl, same-equal}
-use Rattle.encoding.proofs.Calls.{Fits, picked, fits}
+use Rattle.encoding.proofs.Calls.{picked}
 
 whole : (v : ℕ) → U32 v → v % 256 ^ 4 ≡ v
 whole v h = omega arith
@@ -42,7 +42,7 @@ module _ (f : Fields) (own : ℕ) where
 pub encode-decode : EncodeDecode
 unfolding decoded
 encode-decode c own h k =
-    rw (fields-back (fieldsOf c) own (fits c h), own-back (fieldsOf c) own k, picked c, same-refl (encoded c own))
+    rw (fields-back (fieldsOf c) own h, own-back (fieldsOf c) own k, picked c, same-refl (encoded c own))
 
 pub decode-encode : DecodeEncode
 unfolding decoded

@@ -8,7 +8,7 @@ use lib.Signed.{mag, ltZ}
 use borrow.Author.Tests.{ltb-true, le-ltb}
 use mir.Syntax.{w32}
 use mir.Val.{SFits, toZ, ofZ}
-use Rattle.reference.proofs.Signed.{back}
+use Rattle.call.proofs.Signed.{back}
 use Rattle.encoding.specs.Format.{bits}
 
 -- a number below 0: -1 less it is not, and that is read back as it is

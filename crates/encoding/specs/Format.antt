@@ -13,9 +13,11 @@ use Rattle.numbers.specs.declared.number.Width.the-variants.{Byte, Word, Long}
 use Rattle.find_window.specs.Find.{spaceNumber}
 use Rattle.find_window.specs.declared.find.Space.{Space}
 use Rattle.find_window.specs.declared.find.Space.the-variants.{Memory, Io}
-use Rattle.reference.specs.declared.Answer.{Answer}
-use Rattle.reference.specs.declared.Call.{Call}
-use Rattle.reference.specs.declared.Call.the-variants.{Load, Reset, WriteImage, FindPciDevice, FindPciClasscode, ReadConfig, FastReadConfig, WriteConfig, ReadData, FastReadData, WriteData, BusToCpu, CpuToBus, ListWindow, GetResource, HookInterrupt, UnhookInterrupt, ListChain, GetCardUsed, SetCardUsed, SpecialCycle, GetRouting, SetInterrupt}
+use Rattle.call.specs.declared.answer.Answer.{Answer}
+use Rattle.call.specs.declared.call.Call.{Call}
+use Rattle.call.specs.declared.call.Access.the-variants.{Read, FastRead, Write}
+use Rattle.call.specs.declared.call.Call.the-variants.{Load, Reset, WriteImage, Config, Data, GetResource, HookInterrupt, UnhookInterrupt, SetCardUsed, Ask}
+use Rattle.call.specs.declared.call.Query.the-variants.{FindPciDevice, FindPciClasscode, BusToCpu, CpuToBus, ListWindow, ListChain, GetCardUsed, SpecialCycle, GetRouting, SetInterrupt}
 use Rattle.encoding.specs.declared.fields.Fields.{Fields}
 use Rattle.encoding.specs.declared.decode.Decoded.{Decoded}
 use Rattle.encoding.specs.declared.decode.Decoded.the-variants.{Known, Malformed}
@@ -29,26 +31,26 @@ abbrev pub fieldsOf : Call → Fields
 fieldsOf Load = fields 1 0 0 0 0 0 0
 fieldsOf Reset = fields 2 0 0 0 0 0 0
 fieldsOf WriteImage = fields 3 0 0 0 0 0 0
-fieldsOf (FindPciDevice id index) = fields 4 0 0 0 0 id index
-fieldsOf (FindPciClasscode class index) = fields 5 0 0 0 0 class index
-fieldsOf (ReadConfig width handle register) = fields 6 (bytes width) 0 register handle 0 0
-fieldsOf (FastReadConfig width handle register) = fields 7 (bytes width) 0 register handle 0 0
-fieldsOf (WriteConfig width handle register value) = fields 8 (bytes width) 0 register handle value 0
-fieldsOf (ReadData space width handle address) = fields 9 (bytes width) (spaceNumber space) 0 handle (address .0) 0
-fieldsOf (FastReadData space width handle address) = fields 10 (bytes width) (spaceNumber space) 0 handle (address .0) 0
-fieldsOf (WriteData space width handle address value) = fields 11 (bytes width) (spaceNumber space) 0 handle (address .0) value
-fieldsOf (BusToCpu handle address) = fields 12 0 0 0 handle (address .0) 0
-fieldsOf (CpuToBus handle address) = fields 13 0 0 0 handle (address .0) 0
-fieldsOf (ListWindow n) = fields 14 0 0 0 0 n 0
+fieldsOf (Ask (FindPciDevice id index)) = fields 4 0 0 0 0 id index
+fieldsOf (Ask (FindPciClasscode class index)) = fields 5 0 0 0 0 class index
+fieldsOf (Config width handle register Read) = fields 6 (bytes width) 0 register handle 0 0
+fieldsOf (Config width handle register FastRead) = fields 7 (bytes width) 0 register handle 0 0
+fieldsOf (Config width handle register (Write value)) = fields 8 (bytes width) 0 register handle value 0
+fieldsOf (Data space width handle address Read) = fields 9 (bytes width) (spaceNumber space) 0 handle (address .0) 0
+fieldsOf (Data space width handle address FastRead) = fields 10 (bytes width) (spaceNumber space) 0 handle (address .0) 0
+fieldsOf (Data space width handle address (Write value)) = fields 11 (bytes width) (spaceNumber space) 0 handle (address .0) value
+fieldsOf (Ask (BusToCpu handle address)) = fields 12 0 0 0 handle (address .0) 0
+fieldsOf (Ask (CpuToBus handle address)) = fields 13 0 0 0 handle (address .0) 0
+fieldsOf (Ask (ListWindow n)) = fields 14 0 0 0 0 n 0
 fieldsOf (GetResource handle) = fields 15 0 0 0 handle 0 0
 fieldsOf (HookInterrupt handle handler parameter) = fields 16 0 0 0 handle handler parameter
 fieldsOf (UnhookInterrupt handle) = fields 17 0 0 0 handle 0 0
-fieldsOf (ListChain line place) = fields 18 0 0 0 0 line place
-fieldsOf (GetCardUsed handle) = fields 19 0 0 0 handle 0 0
+fieldsOf (Ask (ListChain line place)) = fields 18 0 0 0 0 line place
+fieldsOf (Ask (GetCardUsed handle)) = fields 19 0 0 0 handle 0 0
 fieldsOf (SetCardUsed handle status callBack) = fields 20 0 0 0 handle status callBack
-fieldsOf (SpecialCycle onBus message) = fields 21 0 0 onBus 0 message 0
-fieldsOf (GetRouting handle) = fields 22 0 0 0 handle 0 0
-fieldsOf (SetInterrupt handle mode) = fields 23 0 0 0 handle mode 0
+fieldsOf (Ask (SpecialCycle onBus message)) = fields 21 0 0 onBus 0 message 0
+fieldsOf (Ask (GetRouting handle)) = fields 22 0 0 0 handle 0 0
+fieldsOf (Ask (SetInterrupt handle mode)) = fields 23 0 0 0 handle mode 0
 
 -- a width and a space of a byte, whatever it is
 abbrev pub widthOf : ℕ → Width
@@ -73,26 +75,26 @@ calls f =
     Load
     ∷ Reset
     ∷ WriteImage
-    ∷ FindPciDevice (f .a) (f .b)
-    ∷ FindPciClasscode (f .a) (f .b)
-    ∷ ReadConfig w h r
-    ∷ FastReadConfig w h r
-    ∷ WriteConfig w h r (f .a)
-    ∷ ReadData s w h (bus (f .a))
-    ∷ FastReadData s w h (bus (f .a))
-    ∷ WriteData s w h (bus (f .a)) (f .b)
-    ∷ BusToCpu h (bus (f .a))
-    ∷ CpuToBus h (cpu (f .a))
-    ∷ ListWindow (f .a)
+    ∷ Ask (FindPciDevice (f .a) (f .b))
+    ∷ Ask (FindPciClasscode (f .a) (f .b))
+    ∷ Config w h r Read
+    ∷ Config w h r FastRead
+    ∷ Config w h r (Write (f .a))
+    ∷ Data s w h (bus (f .a)) Read
+    ∷ Data s w h (bus (f .a)) FastRead
+    ∷ Data s w h (bus (f .a)) (Write (f .b))
+    ∷ Ask (BusToCpu h (bus (f .a)))
+    ∷ Ask (CpuToBus h (cpu (f .a)))
+    ∷ Ask (ListWindow (f .a))
     ∷ GetResource h
     ∷ HookInterrupt h (f .a) (f .b)
     ∷ UnhookInterrupt h
-    ∷ ListChain (f .a) (f .b)
-    ∷ GetCardUsed h
+    ∷ Ask (ListChain (f .a) (f .b))
+    ∷ Ask (GetCardUsed h)
     ∷ SetCardUsed h (f .a) (f .b)
-    ∷ SpecialCycle r (f .a)
-    ∷ GetRouting h
-    ∷ SetInterrupt h (f .a)
+    ∷ Ask (SpecialCycle r (f .a))
+    ∷ Ask (GetRouting h)
+    ∷ Ask (SetInterrupt h (f .a))
     ∷ []
 
 -- the only call that can have these fields

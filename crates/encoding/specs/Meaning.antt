@@ -2,42 +2,23 @@
 use Prim.Native.Nat.{ℕ, _<_, _^_}
 use mathlib.Core.List.{List}
 use mathlib.Core.Path.{_≡_}
-use Rattle.reference.specs.declared.Call.{Call}
-use Rattle.reference.specs.declared.Call.the-variants.{Load, Reset, WriteImage, FindPciDevice, FindPciClasscode, ReadConfig, FastReadConfig, WriteConfig, ReadData, FastReadData, WriteData, BusToCpu, CpuToBus, ListWindow, GetResource, HookInterrupt, UnhookInterrupt, ListChain, GetCardUsed, SetCardUsed, SpecialCycle, GetRouting, SetInterrupt}
+use Rattle.call.specs.declared.call.Call.{Call}
 use Rattle.encoding.specs.declared.decode.Decoded.the-variants.{Known}
-use Rattle.encoding.specs.Format.{encoded, decoded}
-
-abbrev pub U8 : ℕ → Type 0
-U8 n = n < 2 ^ 8
+use Rattle.encoding.specs.declared.fields.Fields.{Fields}
+use Rattle.encoding.specs.Format.{fieldsOf, encoded, decoded}
 
 abbrev pub U32 : ℕ → Type 0
 U32 n = n < 2 ^ 32
 
--- the types can hold this call: each argument is below its type's bound
+-- the fields that take four bytes fit there; those of one byte stand in the header as they are
+pub record Fits (f : Fields) : Type 0 where
+  pub handle : U32 (f .handle)
+  pub a : U32 (f .a)
+  pub b : U32 (f .b)
+
+-- the types can hold this call
 abbrev pub Holds : Call → Type 0
-Holds Load = Unit {0}
-Holds Reset = Unit {0}
-Holds WriteImage = Unit {0}
-Holds (FindPciDevice id index) = U32 id × U32 index
-Holds (FindPciClasscode class index) = U32 class × U32 index
-Holds (ReadConfig width handle register) = U32 handle × U8 register
-Holds (FastReadConfig width handle register) = U32 handle × U8 register
-Holds (WriteConfig width handle register value) = U32 handle × (U8 register × U32 value)
-Holds (ReadData space width handle address) = U32 handle × U32 (address .0)
-Holds (FastReadData space width handle address) = U32 handle × U32 (address .0)
-Holds (WriteData space width handle address value) = U32 handle × (U32 (address .0) × U32 value)
-Holds (BusToCpu handle address) = U32 handle × U32 (address .0)
-Holds (CpuToBus handle address) = U32 handle × U32 (address .0)
-Holds (ListWindow n) = U32 n
-Holds (GetResource handle) = U32 handle
-Holds (HookInterrupt handle handler parameter) = U32 handle × (U32 handler × U32 parameter)
-Holds (UnhookInterrupt handle) = U32 handle
-Holds (ListChain line place) = U32 line × U32 place
-Holds (GetCardUsed handle) = U32 handle
-Holds (SetCardUsed handle status callBack) = U32 handle × (U32 status × U32 callBack)
-Holds (SpecialCycle bus message) = U8 bus × U32 message
-Holds (GetRouting handle) = U32 handle
-Holds (SetInterrupt handle mode) = U32 handle × U32 mode
+Holds c = Fits (fieldsOf c)
 
 -- ENCODE THEN DECODE is the identity, for every call that the types can hold and every length of its own buffer
 abbrev pub EncodeDecode : Type 0

@@ -3,9 +3,9 @@ use crate::encode::CALL_HEADER;
 use crate::encode::CallHeader;
 use crate::encode::OWN_LENGTH;
 use crate::put::put_value;
+use call::answer::Answer;
 use numbers::number::Width;
 use numbers::number::put_big;
-use reference::Answer;
 ghost use mathlib.Core.Path.{_≡_};
 ghost use Rattle.encoding.specs.Format.{bits, answerBytes};
 

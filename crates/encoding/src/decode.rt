@@ -4,11 +4,11 @@ use crate::encode::header_of;
 use crate::fields::Fields;
 use crate::fields::call_of;
 use crate::fields::fields_of;
+use call::call::Call;
 use check::same;
 use numbers::number::Width;
 use numbers::number::big_at;
 use numbers::number::byte_at;
-use reference::Call;
 ghost use mathlib.Core.Path.{_≡_};
 ghost use Rattle.encoding.specs.Format.{fieldsAt, decoded};
 

@@ -1,9 +1,9 @@
 // The header of a call.
 use crate::fields::Fields;
 use crate::fields::fields_of;
+use call::call::Call;
 use numbers::number::Width;
 use numbers::number::put_big;
-use reference::Call;
 ghost use mathlib.Core.Path.{_≡_};
 ghost use Rattle.encoding.specs.Format.{headerOf, encoded};
 

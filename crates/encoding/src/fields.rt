@@ -1,12 +1,15 @@
 // The fields of a call's header: a row for each call, in the order of the operations' numbers.
 use board::address::BusAddress;
 use board::address::CpuAddress;
+use call::call::Access;
+use call::call::Call;
+use call::call::Query;
 use find_window::find::Space;
 use numbers::number::Width;
 use numbers::number::bytes;
-use reference::Call;
 ghost use mathlib.Core.Path.{_≡_};
 ghost use Rattle.find_window.specs.Find.{spaceNumber};
+ghost use Rattle.call.specs.declared.call.Call.the-variants.{Ask};
 ghost use Rattle.encoding.specs.Format.{fields, fieldsOf, candidate, widthOf, spaceOf};
 
 // The fields of a header; what a call does not have is 0.
@@ -44,6 +47,24 @@ fn space_number(space: Space) -> u8
     }
 }
 
+// The fields of a query.
+fn query_fields(query: Query) -> Fields
+    ensures { λ r. ⌜ r ≡ fieldsOf (Ask query) ⌝ }
+{
+    match query {
+        Query::FindPciDevice { id, index } => row(4, 0, 0, 0, 0, id, index),
+        Query::FindPciClasscode { class, index } => row(5, 0, 0, 0, 0, class, index),
+        Query::BusToCpu { handle, address } => row(12, 0, 0, 0, handle, address.0, 0),
+        Query::CpuToBus { handle, address } => row(13, 0, 0, 0, handle, address.0, 0),
+        Query::ListWindow { n } => row(14, 0, 0, 0, 0, n, 0),
+        Query::ListChain { line, place } => row(18, 0, 0, 0, 0, line, place),
+        Query::GetCardUsed { handle } => row(19, 0, 0, 0, handle, 0, 0),
+        Query::SpecialCycle { bus, message } => row(21, 0, 0, bus, 0, message, 0),
+        Query::GetRouting { handle } => row(22, 0, 0, 0, handle, 0, 0),
+        Query::SetInterrupt { handle, mode } => row(23, 0, 0, 0, handle, mode, 0),
+    }
+}
+
 // The fields of a call.
 pub fn fields_of(call: Call) -> Fields
     ensures { λ r. ⌜ r ≡ fieldsOf call ⌝ }
@@ -52,70 +73,34 @@ pub fn fields_of(call: Call) -> Fields
         Call::Load => row(1, 0, 0, 0, 0, 0, 0),
         Call::Reset => row(2, 0, 0, 0, 0, 0, 0),
         Call::WriteImage => row(3, 0, 0, 0, 0, 0, 0),
-        Call::FindPciDevice { id, index } => row(4, 0, 0, 0, 0, id, index),
-        Call::FindPciClasscode { class, index } => row(5, 0, 0, 0, 0, class, index),
-        Call::ReadConfig {
+        Call::Config {
             width,
             handle,
             register,
-        } => row(6, bytes(width), 0, register, handle, 0, 0),
-        Call::FastReadConfig {
-            width,
-            handle,
-            register,
-        } => row(7, bytes(width), 0, register, handle, 0, 0),
-        Call::WriteConfig {
-            width,
-            handle,
-            register,
-            value,
-        } => row(8, bytes(width), 0, register, handle, value, 0),
-        Call::ReadData {
+            access,
+        } => {
+            let w = bytes(width);
+            match access {
+                Access::Read => row(6, w, 0, register, handle, 0, 0),
+                Access::FastRead => row(7, w, 0, register, handle, 0, 0),
+                Access::Write { value } => row(8, w, 0, register, handle, value, 0),
+            }
+        }
+        Call::Data {
             space,
             width,
             handle,
             address,
-        } => row(
-            9,
-            bytes(width),
-            space_number(space),
-            0,
-            handle,
-            address.0,
-            0,
-        ),
-        Call::FastReadData {
-            space,
-            width,
-            handle,
-            address,
-        } => row(
-            10,
-            bytes(width),
-            space_number(space),
-            0,
-            handle,
-            address.0,
-            0,
-        ),
-        Call::WriteData {
-            space,
-            width,
-            handle,
-            address,
-            value,
-        } => row(
-            11,
-            bytes(width),
-            space_number(space),
-            0,
-            handle,
-            address.0,
-            value,
-        ),
-        Call::BusToCpu { handle, address } => row(12, 0, 0, 0, handle, address.0, 0),
-        Call::CpuToBus { handle, address } => row(13, 0, 0, 0, handle, address.0, 0),
-        Call::ListWindow { n } => row(14, 0, 0, 0, 0, n, 0),
+            access,
+        } => {
+            let w = bytes(width);
+            let s = space_number(space);
+            match access {
+                Access::Read => row(9, w, s, 0, handle, address.0, 0),
+                Access::FastRead => row(10, w, s, 0, handle, address.0, 0),
+                Access::Write { value } => row(11, w, s, 0, handle, address.0, value),
+            }
+        }
         Call::GetResource { handle } => row(15, 0, 0, 0, handle, 0, 0),
         Call::HookInterrupt {
             handle,
@@ -123,16 +108,12 @@ pub fn fields_of(call: Call) -> Fields
             parameter,
         } => row(16, 0, 0, 0, handle, handler, parameter),
         Call::UnhookInterrupt { handle } => row(17, 0, 0, 0, handle, 0, 0),
-        Call::ListChain { line, place } => row(18, 0, 0, 0, 0, line, place),
-        Call::GetCardUsed { handle } => row(19, 0, 0, 0, handle, 0, 0),
         Call::SetCardUsed {
             handle,
             status,
             call_back,
         } => row(20, 0, 0, 0, handle, status, call_back),
-        Call::SpecialCycle { bus, message } => row(21, 0, 0, bus, 0, message, 0),
-        Call::GetRouting { handle } => row(22, 0, 0, 0, handle, 0, 0),
-        Call::SetInterrupt { handle, mode } => row(23, 0, 0, 0, handle, mode, 0),
+        Call::Ask(query) => query_fields(query),
     }
 }
 
@@ -174,52 +155,56 @@ pub fn call_of(f: Fields) -> Call
         1 => Call::Load,
         2 => Call::Reset,
         3 => Call::WriteImage,
-        4 => Call::FindPciDevice { id: a, index: b },
-        5 => Call::FindPciClasscode { class: a, index: b },
-        6 => Call::ReadConfig {
+        4 => Call::Ask(Query::FindPciDevice { id: a, index: b }),
+        5 => Call::Ask(Query::FindPciClasscode { class: a, index: b }),
+        6 => Call::Config {
             width: width,
             handle: handle,
             register: register,
+            access: Access::Read,
         },
-        7 => Call::FastReadConfig {
+        7 => Call::Config {
             width: width,
             handle: handle,
             register: register,
+            access: Access::FastRead,
         },
-        8 => Call::WriteConfig {
+        8 => Call::Config {
             width: width,
             handle: handle,
             register: register,
-            value: a,
+            access: Access::Write { value: a },
         },
-        9 => Call::ReadData {
+        9 => Call::Data {
             space: space,
             width: width,
             handle: handle,
             address: BusAddress(a),
+            access: Access::Read,
         },
-        10 => Call::FastReadData {
+        10 => Call::Data {
             space: space,
             width: width,
             handle: handle,
             address: BusAddress(a),
+            access: Access::FastRead,
         },
-        11 => Call::WriteData {
+        11 => Call::Data {
             space: space,
             width: width,
             handle: handle,
             address: BusAddress(a),
-            value: b,
+            access: Access::Write { value: b },
         },
-        12 => Call::BusToCpu {
+        12 => Call::Ask(Query::BusToCpu {
             handle: handle,
             address: BusAddress(a),
-        },
-        13 => Call::CpuToBus {
+        }),
+        13 => Call::Ask(Query::CpuToBus {
             handle: handle,
             address: CpuAddress(a),
-        },
-        14 => Call::ListWindow { n: a },
+        }),
+        14 => Call::Ask(Query::ListWindow { n: a }),
         15 => Call::GetResource { handle: handle },
         16 => Call::HookInterrupt {
             handle: handle,
@@ -227,22 +212,22 @@ pub fn call_of(f: Fields) -> Call
             parameter: b,
         },
         17 => Call::UnhookInterrupt { handle: handle },
-        18 => Call::ListChain { line: a, place: b },
-        19 => Call::GetCardUsed { handle: handle },
+        18 => Call::Ask(Query::ListChain { line: a, place: b }),
+        19 => Call::Ask(Query::GetCardUsed { handle: handle }),
         20 => Call::SetCardUsed {
             handle: handle,
             status: a,
             call_back: b,
         },
-        21 => Call::SpecialCycle {
+        21 => Call::Ask(Query::SpecialCycle {
             bus: register,
             message: a,
-        },
-        22 => Call::GetRouting { handle: handle },
-        23 => Call::SetInterrupt {
+        }),
+        22 => Call::Ask(Query::GetRouting { handle: handle }),
+        23 => Call::Ask(Query::SetInterrupt {
             handle: handle,
             mode: a,
-        },
+        }),
         _ => Call::Load,
     }
 }

@@ -17,16 +17,16 @@ use Rattle.record.specs.Record.{recordOk}
 use Rattle.cells.specs.Cells.{cellsBefore}
 use Rattle.image_format.specs.Image.{sum}
 use Rattle.refusals.specs.Refusals.{firstBad, firstRefusal}
-use Rattle.reference.specs.Reference.{placeIn, split, verdict, referenceStep}
+use Rattle.reference.specs.Reference.{placeIn, split, verdict, referenceStep, referenceQueried}
 use Rattle.reference.specs.Run.{referenceAnswers}
 use Rattle.proved_cases.specs.B1.{stored, b1}
 use Rattle.proved_cases.specs.Cases.{ProvedCases, B1Short}
 
 pub proved-cases : ProvedCases
-unfolding stored b1 little big tableFrom windowAt gather openWindows put putAll listOf listedNumber listedValues target matching searchNumber inList find placeIn reversed descriptorBytes bytesOf windowsFrom startIn described resource placeNumber placeValues isAmong entryOk recordOk cellsBefore sum firstBad firstRefusal split verdict referenceStep referenceAnswers
+unfolding stored b1 little big tableFrom windowAt gather openWindows put putAll listOf listedNumber listedValues target matching searchNumber inList find placeIn reversed descriptorBytes bytesOf windowsFrom startIn described resource placeNumber placeValues isAmong entryOk recordOk cellsBefore sum firstBad firstRefusal split verdict referenceStep referenceQueried referenceAnswers
 proved-cases =
     (refl, (refl, (refl, (refl, (refl, (refl, (refl, (refl, (refl, (refl, (refl, (refl, (refl, (refl, (refl, tt)))))))))))))))
 
 pub b1-short : B1Short
-unfolding stored b1 little big entryOk recordOk cellsBefore sum firstBad firstRefusal split verdict referenceStep referenceAnswers
+unfolding stored b1 little big entryOk recordOk cellsBefore sum firstBad firstRefusal split verdict referenceStep referenceQueried referenceAnswers
 b1-short = refl

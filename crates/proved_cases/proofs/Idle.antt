@@ -18,7 +18,7 @@ use Rattle.record.specs.Record.{recordOk}
 use Rattle.cells.specs.Cells.{cellsBefore}
 use Rattle.image_format.specs.Image.{sum}
 use Rattle.refusals.specs.Refusals.{firstBad, firstRefusal}
-use Rattle.reference.specs.Reference.{split, verdict, referenceStep}
+use Rattle.reference.specs.Reference.{split, verdict, referenceStep, referenceQueried}
 use Rattle.reference.specs.Run.{Heard}
 use Rattle.proved_cases.specs.B1.{stored, b1}
 use Rattle.proved_cases.specs.Cases.{Holds, b1List, p1, p2, p6, p10, p11}
@@ -52,16 +52,16 @@ unfolding following kindOf
 finds-p2 e = pos-ne-negsuc 1 3 (ap (numberAt 1) e)
 
 nothing-written : Fails (writesUpTo 0) p6
-unfolding following kindOf stored b1 little big tableFrom windowAt gather openWindows put putAll listOf listedNumber listedValues target entryOk recordOk cellsBefore sum firstBad firstRefusal split verdict referenceStep
+unfolding following kindOf stored b1 little big tableFrom windowAt gather openWindows put putAll listOf listedNumber listedValues target entryOk recordOk cellsBefore sum firstBad firstRefusal split verdict referenceStep referenceQueried
 nothing-written e = absurd (omega (arith, ap (valueAt 2 0) e))
 
 works-once : Holds (bus (writesUpTo 1)) p6
-unfolding following kindOf stored b1 little big tableFrom windowAt gather openWindows put putAll listOf listedNumber listedValues target entryOk recordOk cellsBefore sum firstBad firstRefusal split verdict referenceStep
+unfolding following kindOf stored b1 little big tableFrom windowAt gather openWindows put putAll listOf listedNumber listedValues target entryOk recordOk cellsBefore sum firstBad firstRefusal split verdict referenceStep referenceQueried
 works-once = refl
 
 -- after the second write the first window is still contested
 stands-still : Fails (writesUpTo 1) p11
-unfolding following kindOf stored b1 little big tableFrom windowAt gather openWindows put putAll listOf listedNumber listedValues target entryOk recordOk cellsBefore sum firstBad firstRefusal split verdict referenceStep
+unfolding following kindOf stored b1 little big tableFrom windowAt gather openWindows put putAll listOf listedNumber listedValues target entryOk recordOk cellsBefore sum firstBad firstRefusal split verdict referenceStep referenceQueried
 stands-still e = absurd (omega (arith, ap (valueAt 7 5) e))
 
 -- with fewer than three windows the third is missing, with more there is a fourth

@@ -10,10 +10,12 @@ use Rattle.numbers.specs.declared.number.Width.the-variants.{Byte, Long}
 use Rattle.data_cells.specs.Cells.{valueAt}
 use Rattle.byte_order.specs.Orders.{placed}
 use Rattle.find_window.specs.declared.find.Space.the-variants.{Memory}
-use Rattle.reference.specs.declared.Answer.{Answer}
-use Rattle.reference.specs.declared.Call.{Call}
-use Rattle.reference.specs.declared.Call.the-variants.{Load, FindPciDevice, FindPciClasscode, ReadConfig, WriteConfig, WriteData, GetResource, HookInterrupt, ListChain, ListWindow}
-use Rattle.reference.specs.Answers.{answer, zeros, one, ofStatus, ofSearch, ofChain}
+use Rattle.call.specs.declared.answer.Answer.{Answer}
+use Rattle.call.specs.declared.call.Call.{Call}
+use Rattle.call.specs.declared.call.Access.the-variants.{Read, Write}
+use Rattle.call.specs.declared.call.Call.the-variants.{Load, Config, Data, GetResource, HookInterrupt, Ask}
+use Rattle.call.specs.declared.call.Query.the-variants.{FindPciDevice, FindPciClasscode, ListChain, ListWindow}
+use Rattle.call.specs.Answers.{answer, zeros, one, ofStatus, ofSearch, ofChain}
 use Rattle.reference.specs.Reference.{referenceStart}
 use Rattle.reference.specs.Run.{Asked, Heard, asked, heard, referenceAnswers}
 use Rattle.proved_cases.specs.B1.{b1}
@@ -57,46 +59,46 @@ list start contested =
     listed 0 0x80000000 0x400 1 0 contested ∷ listed 0 start 0x400 2 0 contested ∷ listed 1 0x100 0x10 2 1 0 ∷ ofStatus deviceNotFound ∷ []
 
 abbrev pub listing : List Call
-listing = ListWindow 0 ∷ ListWindow 1 ∷ ListWindow 2 ∷ ListWindow 3 ∷ []
+listing = Ask (ListWindow 0) ∷ Ask (ListWindow 1) ∷ Ask (ListWindow 2) ∷ Ask (ListWindow 3) ∷ []
 
 -- the window list of B1, and document 01's cases
 abbrev pub b1List : Case
 b1List = case listing (list 0x80000400 0)
 
 abbrev pub p1 : Case
-p1 = case (FindPciDevice 0x00010F0F 1 ∷ []) (found 2 ∷ [])
+p1 = case (Ask (FindPciDevice 0x00010F0F 1) ∷ []) (found 2 ∷ [])
 
 abbrev pub p2 : Case
-p2 = case (FindPciDevice 0x00010F0F 2 ∷ []) (ofStatus deviceNotFound ∷ [])
+p2 = case (Ask (FindPciDevice 0x00010F0F 2) ∷ []) (ofStatus deviceNotFound ∷ [])
 
 abbrev pub p3 : Case
-p3 = case (FindPciDevice 0x0000FFFF 0 ∷ []) (found 1 ∷ [])
+p3 = case (Ask (FindPciDevice 0x0000FFFF 0) ∷ []) (found 1 ∷ [])
 
 abbrev pub p4 : Case
-p4 = case (FindPciClasscode 0x01118055 0 ∷ []) (found 1 ∷ [])
+p4 = case (Ask (FindPciClasscode 0x01118055 0) ∷ []) (found 1 ∷ [])
 
 abbrev pub p5 : Case
-p5 = case (FindPciClasscode 0x00118055 0 ∷ []) (ofStatus deviceNotFound ∷ [])
+p5 = case (Ask (FindPciClasscode 0x00118055 0) ∷ []) (ofStatus deviceNotFound ∷ [])
 
 abbrev pub p6 : Case
-p6 = case (WriteConfig Long 1 0x10 0xFFFFFFFF ∷ ReadConfig Long 1 0x10 ∷ []) (ofStatus successful ∷ value 0xFFFFFC00 ∷ [])
+p6 = case (Config Long 1 0x10 (Write 0xFFFFFFFF) ∷ Config Long 1 0x10 Read ∷ []) (ofStatus successful ∷ value 0xFFFFFC00 ∷ [])
 
 abbrev pub p7 : Case
-p7 = case (WriteConfig Byte 1 0x11 0x12 ∷ ReadConfig Long 1 0x10 ∷ []) (ofStatus successful ∷ value 0x80001000 ∷ [])
+p7 = case (Config Byte 1 0x11 (Write 0x12) ∷ Config Long 1 0x10 Read ∷ []) (ofStatus successful ∷ value 0x80001000 ∷ [])
 
 abbrev pub p8 : Case
-p8 = case (WriteConfig Long 2 0x14 0xFFFFFFFF ∷ ReadConfig Long 2 0x14 ∷ []) (ofStatus successful ∷ value 0xFFFFFFF1 ∷ [])
+p8 = case (Config Long 2 0x14 (Write 0xFFFFFFFF) ∷ Config Long 2 0x14 Read ∷ []) (ofStatus successful ∷ value 0xFFFFFFF1 ∷ [])
 
 -- one longword past the end of handle 1's window, and its last
 abbrev pub p9 : Case
-p9 = case (WriteData Memory Long 1 (record { 0 = 0x80000400 }) 1 ∷ []) (ofStatus generalError ∷ [])
+p9 = case (Data Memory Long 1 (record { 0 = 0x80000400 }) (Write 1) ∷ []) (ofStatus generalError ∷ [])
 
 abbrev pub p10 : Case
-p10 = case (WriteData Memory Long 1 (record { 0 = 0x800003FC }) 1 ∷ []) (ofStatus successful ∷ [])
+p10 = case (Data Memory Long 1 (record { 0 = 0x800003FC }) (Write 1) ∷ []) (ofStatus successful ∷ [])
 
 abbrev pub p11 : Case
 p11 =
-    case (WriteConfig Long 2 0x10 0x80000000 ∷ listing ++ WriteConfig Long 2 0x10 0x80000400 ∷ listing)
+    case (Config Long 2 0x10 (Write 0x80000000) ∷ listing ++ Config Long 2 0x10 (Write 0x80000400) ∷ listing)
     (ofStatus successful ∷ list 0x80000000 1 ++ ofStatus successful ∷ list 0x80000400 0)
 
 abbrev pub p12 : Case
@@ -108,7 +110,7 @@ p13 = cells (0x11 ∷ 0x22 ∷ 0x33 ∷ 0x44 ∷ []) (reading 1 2 0x3344 ∷ rea
 -- handlers and parameters of any kind
 abbrev pub p14 : Case
 p14 =
-    case (HookInterrupt 2 0x2000 7 ∷ HookInterrupt 1 0x1000 8 ∷ ListChain 5 0 ∷ ListChain 5 1 ∷ ListChain 5 2 ∷ [])
+    case (HookInterrupt 2 0x2000 7 ∷ HookInterrupt 1 0x1000 8 ∷ Ask (ListChain 5 0) ∷ Ask (ListChain 5 1) ∷ Ask (ListChain 5 2) ∷ [])
     (ofStatus successful ∷ ofStatus successful ∷ chained 2 0x2000 7 ∷ chained 1 0x1000 8 ∷ ofStatus deviceNotFound ∷ [])
 
 abbrev pub table : List Case

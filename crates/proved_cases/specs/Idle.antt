@@ -6,9 +6,13 @@ use mathlib.Core.Path.{_≡_}
 use lib.Dec.{ltb}
 use lib.IntN.{ℤ, pos}
 use Rattle.board.specs.Statuses.{successful, deviceNotFound}
-use Rattle.reference.specs.declared.Call.{Call}
-use Rattle.reference.specs.declared.Call.the-variants.{Load, Reset, WriteImage, FindPciDevice, FindPciClasscode, ReadConfig, FastReadConfig, WriteConfig, ReadData, FastReadData, WriteData, BusToCpu, CpuToBus, GetResource, HookInterrupt, UnhookInterrupt, ListChain, GetCardUsed, SetCardUsed, SpecialCycle, GetRouting, SetInterrupt, ListWindow}
-use Rattle.reference.specs.Answers.{answer, zeros, ofStatus}
+use Rattle.call.specs.declared.call.Call.{Call}
+use Rattle.call.specs.declared.call.Access.{Access}
+use Rattle.call.specs.declared.call.Access.the-variants.{Read, FastRead, Write}
+use Rattle.call.specs.declared.call.Call.the-variants.{Load, Reset, WriteImage, Config, Data, GetResource, HookInterrupt, UnhookInterrupt, SetCardUsed, Ask}
+use Rattle.call.specs.declared.call.Query.{Query}
+use Rattle.call.specs.declared.call.Query.the-variants.{FindPciDevice, FindPciClasscode, BusToCpu, CpuToBus, ListChain, GetCardUsed, SpecialCycle, GetRouting, SetInterrupt, ListWindow}
+use Rattle.call.specs.Answers.{answer, zeros, ofStatus}
 use Rattle.reference.specs.Claims.{refusals}
 use Rattle.reference.specs.Reference.{Reference, Told, told, referenceStart}
 use Rattle.reference.specs.Run.{Asked, Heard, heard, referenceOn}
@@ -22,30 +26,34 @@ pub data Kind : Type 0 where
   list : ℕ → Kind
   other : Kind
 
+abbrev pub accessKind : Access → Kind
+accessKind Read = other
+accessKind FastRead = other
+accessKind (Write value) = write
+
+abbrev pub queryKind : Query → Kind
+queryKind (FindPciDevice id index) = search
+queryKind (FindPciClasscode class index) = search
+queryKind (BusToCpu handle address) = other
+queryKind (CpuToBus handle address) = other
+queryKind (ListChain line place) = other
+queryKind (GetCardUsed handle) = other
+queryKind (SpecialCycle bus message) = other
+queryKind (GetRouting handle) = other
+queryKind (SetInterrupt handle mode) = other
+queryKind (ListWindow n) = list n
+
 unfoldable pub kindOf : Call → Kind
 kindOf Load = load
 kindOf Reset = other
 kindOf WriteImage = other
-kindOf (FindPciDevice id index) = search
-kindOf (FindPciClasscode class index) = search
-kindOf (ReadConfig width handle register) = other
-kindOf (FastReadConfig width handle register) = other
-kindOf (WriteConfig width handle register value) = write
-kindOf (ReadData space width handle address) = other
-kindOf (FastReadData space width handle address) = other
-kindOf (WriteData space width handle address value) = write
-kindOf (BusToCpu handle address) = other
-kindOf (CpuToBus handle address) = other
+kindOf (Config width handle register access) = accessKind access
+kindOf (Data space width handle address access) = accessKind access
 kindOf (GetResource handle) = other
 kindOf (HookInterrupt handle handler parameter) = other
 kindOf (UnhookInterrupt handle) = other
-kindOf (ListChain line place) = other
-kindOf (GetCardUsed handle) = other
 kindOf (SetCardUsed handle status callBack) = other
-kindOf (SpecialCycle bus message) = other
-kindOf (GetRouting handle) = other
-kindOf (SetInterrupt handle mode) = other
-kindOf (ListWindow n) = list n
+kindOf (Ask query) = queryKind query
 
 -- one thing for each kind, in this order
 abbrev pub byKind : {A : Type 0} → Kind → A → A → A → (ℕ → A) → A → A

@@ -15,18 +15,19 @@ use Rattle.chain_listing.specs.declared.listing.ChainListing.{ChainListing}
 use Rattle.chain_listing.proofs.Listings.{chain-number, chain-values}
 use Rattle.interrupt.proofs.Room.{without-once}
 use Rattle.load.specs.Load.{padded}
-use Rattle.reference.specs.declared.Answer.{Answer}
-use Rattle.reference.specs.declared.Call.the-variants.{HookInterrupt, UnhookInterrupt, ListChain}
-use Rattle.reference.specs.Answers.{ofStatus, ofChain}
-use Rattle.reference.specs.State.{next, step}
-use Rattle.reference.specs.Reference.{Reference, Told, told, joined, lineFor, pinFor, withChainOf, referenceStep}
+use Rattle.call.specs.declared.answer.Answer.{Answer}
+use Rattle.call.specs.declared.call.Call.the-variants.{HookInterrupt, UnhookInterrupt}
+use Rattle.call.specs.declared.call.Query.the-variants.{ListChain}
+use Rattle.call.specs.Answers.{ofStatus, ofChain}
+use Rattle.reference.specs.State.{next, step, queried}
+use Rattle.reference.specs.Reference.{Reference, Told, told, joined, lineFor, pinFor, withChainOf, referenceStep, referenceQueried}
 use Rattle.reference.specs.Run.{partsOf}
 use Rattle.reference.proofs.Tests.{ifBoth, ifAlike}
 use Rattle.reference.proofs.Registers.{kept-byte}
 use Rattle.reference.proofs.Among.{every-without, packed-without}
 use Rattle.reference.proofs.Lines.{allLines}
 use Rattle.reference.proofs.Chained.{On, Chained, among-lines, without-lines, chained-changed, chained-hook}
-use Rattle.reference.proofs.Sound.{Sound, Same, Simulated, as-told, answered, handle-same, handle-within}
+use Rattle.reference.proofs.Sound.{Sound, Same, Simulated, Answered, as-told, handle-same, handle-within}
 use Rattle.reference.proofs.HookArray.{line-kept, few, hooked-same, room, free-same, hook-lines, chain-same}
 
 module _ (b : Reference) (s : Sound b) where
@@ -92,11 +93,10 @@ module _ (b : Reference) (s : Sound b) where
       (λ e. as-told b s))
       (λ g. as-told b s)
 
-  pub same-list-chain : (line place : ℕ) (own : List ℕ) → Simulated b (ListChain line place) own
-  unfolding step referenceStep partsOf
-  same-list-chain line place own =
+  pub same-list-chain : (line place : ℕ) → Answered b (ListChain line place)
+  unfolding queried referenceQueried partsOf
+  same-list-chain line place =
       let given : chainListing (chainOf records (packed (allLines chains)) line) line place ≡ chainListing (chains line) line place =
       ifBoth (λ (x y : ChainListing). x ≡ y) (ltb lastLine line) (λ e. refl) (λ e. ap (λ (c : List Hook). listed c place) (chain-same b s line (ltb-false lastLine line e))) in
-      answered b s
-      (ap (λ (l : ChainListing). ofChain (chainNumberOf l) (chainValuesOf l)) given
-      ∙ rw (chain-number (chains line) line place, chain-values (chains line) line place))
+      ap (λ (l : ChainListing). ofChain (chainNumberOf l) (chainValuesOf l)) given
+      ∙ rw (chain-number (chains line) line place, chain-values (chains line) line place)

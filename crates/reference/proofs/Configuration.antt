@@ -18,14 +18,16 @@ use Rattle.search.specs.Search.{deviceMatches, classMatches, matching, searched
 use Rattle.config_read.specs.declared.target.Target.{Target}
 use Rattle.config.proofs.Moves.{list-follows}
 use Rattle.search.proofs.Searches.{search-number, matching-same, device-same, class-same}
-use Rattle.reference.specs.declared.Call.the-variants.{FindPciDevice, FindPciClasscode, ReadConfig, FastReadConfig, WriteConfig}
-use Rattle.reference.specs.Answers.{ofStatus, ofSearch}
-use Rattle.reference.specs.State.{next, step}
-use Rattle.reference.specs.Reference.{Reference, told, windowsOf, targetOf, registersAfter, withRegistersOf, writeOf, referenceStep}
+use Rattle.call.specs.declared.call.Access.the-variants.{Read, FastRead, Write}
+use Rattle.call.specs.declared.call.Call.the-variants.{Config}
+use Rattle.call.specs.declared.call.Query.the-variants.{FindPciDevice, FindPciClasscode}
+use Rattle.call.specs.Answers.{ofStatus}
+use Rattle.reference.specs.State.{next, step, queried}
+use Rattle.reference.specs.Reference.{Reference, told, windowsOf, targetOf, registersAfter, withRegistersOf, writeOf, referenceStep, referenceQueried}
 use Rattle.reference.specs.Run.{partsOf}
 use Rattle.reference.proofs.Tests.{ifTarget}
 use Rattle.reference.proofs.Registers.{flat, flat-byte, flat-number, list-kept, written-same}
-use Rattle.reference.proofs.Sound.{Sound, Same, Simulated, as-told, count-same}
+use Rattle.reference.proofs.Sound.{Sound, Same, Simulated, Answered, as-told, count-same}
 
 -- the window list, worked out from the lent parts
 list-afresh : (b : Reference) → Sound b → windowList (partsOf b .header) (partsOf b .records) (partsOf b .registers) ≡ windowsOf b
@@ -40,25 +42,23 @@ left b w register value t =
 module _ (b : Reference) (s : Sound b) where
   -- a search, whatever it looks for in a function's registers
   same-search : (m : (ℕ → ℕ) → Bool) → ((f g : ℕ → ℕ) → ((at : ℕ) → at < registersEach → f at ≡ g at) → m f ≡ m g)
-      → (index : ℕ) (own : List ℕ)
-      → Same
-      (next (ofSearch (foundNumber (searched (matching (λ i. m (registerByte (flat (b .registers)) i)) 0 (length (b .records))) index))) (partsOf b) own)
-      (told (ofSearch (searchNumber (matching (λ i. m (b .registers i)) 0 (length (b .records))) index)) b own)
-  same-search m depends index own =
+      → (index : ℕ)
+      → foundNumber (searched (matching (λ i. m (registerByte (flat (b .registers)) i)) 0 (length (b .records))) index)
+      ≡ searchNumber (matching (λ i. m (b .registers i)) 0 (length (b .records))) index
+  same-search m depends index =
       rw (
         matching-same (λ i. m (registerByte (flat (b .registers)) i)) (λ i. m (b .registers i)) 0 (length (b .records))
             (λ i h. depends (registerByte (flat (b .registers)) i) (b .registers i) (λ at l. flat-byte (b .registers) i at (omega (arith, s .few)) l)),
         search-number,
       )
-      (as-told b s)
 
-  pub same-device : (id index : ℕ) (own : List ℕ) → Simulated b (FindPciDevice id index) own
-  unfolding step referenceStep partsOf
-  same-device id index own = rw (count-same b s) (same-search (deviceMatches id) (device-same id) index own)
+  pub same-device : (id index : ℕ) → Answered b (FindPciDevice id index)
+  unfolding queried referenceQueried partsOf
+  same-device id index = rw (count-same b s, same-search (deviceMatches id) (device-same id) index)
 
-  pub same-class : (class index : ℕ) (own : List ℕ) → Simulated b (FindPciClasscode class index) own
-  unfolding step referenceStep partsOf
-  same-class class index own = rw (count-same b s) (same-search (classMatches class) (class-same class) index own)
+  pub same-class : (class index : ℕ) → Answered b (FindPciClasscode class index)
+  unfolding queried referenceQueried partsOf
+  same-class class index = rw (count-same b s, same-search (classMatches class) (class-same class) index)
 
   target-same : (w handle register : ℕ) → target (isHandle (partsOf b .header) handle) w handle register ≡ targetOf b w handle register
   unfolding partsOf
@@ -75,11 +75,11 @@ module _ (b : Reference) (s : Sound b) where
       ifTarget (Reads w register) (length (b .records)) w handle register
       (λ i h e k. let n = flat-number (b .registers) w i register (omega (arith, s .few)) k in (rw n, rw n)) (refl, refl) (refl, refl)
 
-  pub same-read : (width : Width) (handle register : ℕ) (own : List ℕ) → Simulated b (ReadConfig width handle register) own
+  pub same-read : (width : Width) (handle register : ℕ) (own : List ℕ) → Simulated b (Config width handle register Read) own
   unfolding step referenceStep partsOf
   same-read width handle register own = rw (target-same _ handle register, reads _ handle register .0) (as-told b s)
 
-  pub same-fast-read : (width : Width) (handle register : ℕ) (own : List ℕ) → Simulated b (FastReadConfig width handle register) own
+  pub same-fast-read : (width : Width) (handle register : ℕ) (own : List ℕ) → Simulated b (Config width handle register FastRead) own
   unfolding step referenceStep partsOf
   same-fast-read width handle register own = rw (target-same _ handle register, reads _ handle register .1) (as-told b s)
 
@@ -120,7 +120,7 @@ module _ (b : Reference) (s : Sound b) where
   writes-list w handle register value own l e = rw e (writes w handle register value own)
 
   pub same-write-config : (width : Width) (handle register value : ℕ) (own : List ℕ)
-      → Simulated b (WriteConfig width handle register value) own
+      → Simulated b (Config width handle register (Write value)) own
   unfolding step referenceStep
   same-write-config width handle register value own =
       rw (target-same _ handle register) (writes-list _ handle register value own _ (cc (follows _ handle register value)))

@@ -24,13 +24,15 @@ use Rattle.find_window.proofs.Searches.{held}
 use Rattle.cells.specs.Cells.{offsetsOf}
 use Rattle.load.specs.Load.{padded}
 use Rattle.cells.proofs.Ranges.{offset-at, cell-ranges}
-use Rattle.reference.specs.declared.Call.the-variants.{ReadData, FastReadData, WriteData, BusToCpu, CpuToBus}
-use Rattle.reference.specs.State.{step}
-use Rattle.reference.specs.Reference.{Reference, entryOf, exponentOf, joined, windowsOf, findFor, placeIn, placeFor, referenceStep}
+use Rattle.call.specs.declared.call.Access.the-variants.{Read, FastRead, Write}
+use Rattle.call.specs.declared.call.Call.the-variants.{Data}
+use Rattle.call.specs.declared.call.Query.the-variants.{BusToCpu, CpuToBus}
+use Rattle.reference.specs.State.{step, queried}
+use Rattle.reference.specs.Reference.{Reference, entryOf, exponentOf, joined, windowsOf, findFor, placeIn, placeFor, referenceStep, referenceQueried}
 use Rattle.reference.specs.Run.{partsOf}
 use Rattle.reference.proofs.Tests.{ifBoth, ifAt}
 use Rattle.reference.proofs.Registers.{kept-byte, kept-number}
-use Rattle.reference.proofs.Sound.{Sound, Simulated, as-told, count-same}
+use Rattle.reference.proofs.Sound.{Sound, Simulated, Answered, as-told, count-same}
 use Rattle.reference.proofs.InSlot.{in-window}
 
 -- a search asks only base registers below 6 whether they offer the width
@@ -86,17 +88,17 @@ module _ (b : Reference) (s : Sound b) where
   place-same width space handle address = rw (find-same (bytes width) space handle address) (place-found width space handle address _ refl)
 
   pub same-read-data : (space : Space) (width : Width) (handle : ℕ) (address : BusAddress) (own : List ℕ)
-      → Simulated b (ReadData space width handle address) own
+      → Simulated b (Data space width handle address Read) own
   unfolding step referenceStep partsOf
   same-read-data space width handle address own = rw (place-same width _ handle (address .0)) (as-told b s)
 
   pub same-fast-read-data : (space : Space) (width : Width) (handle : ℕ) (address : BusAddress) (own : List ℕ)
-      → Simulated b (FastReadData space width handle address) own
+      → Simulated b (Data space width handle address FastRead) own
   unfolding step referenceStep partsOf
   same-fast-read-data space width handle address own = rw (place-same width _ handle (address .0)) (as-told b s)
 
   pub same-write-data : (space : Space) (width : Width) (handle : ℕ) (address : BusAddress) (value : ℕ) (own : List ℕ)
-      → Simulated b (WriteData space width handle address value) own
+      → Simulated b (Data space width handle address (Write value)) own
   unfolding step referenceStep partsOf
   same-write-data space width handle address value own =
       rw (place-same width _ handle (address .0))
@@ -105,10 +107,10 @@ module _ (b : Reference) (s : Sound b) where
       rw e (as-told _ (record { few = s .few; sized = s .sized; fits = simp length-sets (s .fits); chained = s .chained })))
       (λ r e. rw e (as-told b s)))
 
-  pub same-bus-to-cpu : (handle : ℕ) (address : BusAddress) (own : List ℕ) → Simulated b (BusToCpu handle address) own
-  unfolding step referenceStep partsOf
-  same-bus-to-cpu handle address own = rw (count-same b s, kept-number (b .records) (s .sized) (handle - 1) offsetAt (omega arith)) (as-told b s)
+  pub same-bus-to-cpu : (handle : ℕ) (address : BusAddress) → Answered b (BusToCpu handle address)
+  unfolding queried referenceQueried partsOf
+  same-bus-to-cpu handle address = rw (count-same b s, kept-number (b .records) (s .sized) (handle - 1) offsetAt (omega arith))
 
-  pub same-cpu-to-bus : (handle : ℕ) (address : CpuAddress) (own : List ℕ) → Simulated b (CpuToBus handle address) own
-  unfolding step referenceStep partsOf
-  same-cpu-to-bus handle address own = rw (count-same b s, kept-number (b .records) (s .sized) (handle - 1) offsetAt (omega arith)) (as-told b s)
+  pub same-cpu-to-bus : (handle : ℕ) (address : CpuAddress) → Answered b (CpuToBus handle address)
+  unfolding queried referenceQueried partsOf
+  same-cpu-to-bus handle address = rw (count-same b s, kept-number (b .records) (s .sized) (handle - 1) offsetAt (omega arith))

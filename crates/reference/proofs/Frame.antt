@@ -15,11 +15,12 @@ use Rattle.find_window.specs.Find.{spaceNumber}
 use Rattle.cells.specs.Cells.{total}
 use Rattle.image_format.specs.Image.{imageSize, sum, trailer}
 use Rattle.image_writer.proofs.Lists.{trailer-length}
-use Rattle.reference.specs.declared.Call.{Call}
-use Rattle.reference.specs.declared.Call.the-variants.{Load, Reset, WriteImage, FindPciDevice, FindPciClasscode, ReadConfig, FastReadConfig, WriteConfig, ReadData, FastReadData, WriteData, BusToCpu, CpuToBus, GetResource, HookInterrupt, UnhookInterrupt, ListChain, GetCardUsed, SetCardUsed, SpecialCycle, GetRouting, SetInterrupt, ListWindow}
+use Rattle.call.specs.declared.call.Call.{Call}
+use Rattle.call.specs.declared.call.Access.the-variants.{Read, FastRead, Write}
+use Rattle.call.specs.declared.call.Call.the-variants.{Load, Reset, WriteImage, Config, Data, GetResource, HookInterrupt, UnhookInterrupt, SetCardUsed, Ask}
 use Rattle.reference.specs.Reference.{Reference, exponentOf, joined, imageBytes, targetOf, placeFor, writeOf, verdict, referenceStep, referenceStart}
 use Rattle.reference.specs.Run.{Asked, stepOn, referenceAfter, partsOf}
-use Rattle.reference.specs.Claims.{Touch, none, every, touch, addressed, mayTouch, Framed, Frame}
+use Rattle.reference.specs.Claims.{Touch, none, every, touch, nothing, addressed, mayTouch, Framed, Frame}
 use Rattle.reference.proofs.Tests.{ifTest, ifTarget, ifAt}
 use Rattle.reference.proofs.Alike.{alike, touched, zeroed-alike, table-alike, front-alike, written-alike}
 use Rattle.reference.proofs.Records.{joined-length}
@@ -122,29 +123,20 @@ module _ (b : Reference) (s : Sound b) (own : List ℕ) where
   stays Load = stays-load
   stays Reset = stays-reset
   stays WriteImage = stays-write
-  stays (FindPciDevice id index) = keeps (mayTouch b (FindPciDevice id index) own) b own _
-  stays (FindPciClasscode class index) = keeps (mayTouch b (FindPciClasscode class index) own) b own _
-  stays (ReadConfig width handle register) = keeps (mayTouch b (ReadConfig width handle register) own) b own _
-  stays (FastReadConfig width handle register) = keeps (mayTouch b (FastReadConfig width handle register) own) b own _
-  stays (WriteConfig width handle register value) = stays-written _ handle register value
-  stays (ReadData space width handle address) = keeps (mayTouch b (ReadData space width handle address) own) b own _
-  stays (FastReadData space width handle address) = keeps (mayTouch b (FastReadData space width handle address) own) b own _
-  stays (WriteData space width handle address value) =
+  stays (Config width handle register Read) = keeps nothing b own _
+  stays (Config width handle register FastRead) = keeps nothing b own _
+  stays (Config width handle register (Write value)) = stays-written _ handle register value
+  stays (Data space width handle address Read) = keeps nothing b own _
+  stays (Data space width handle address FastRead) = keeps nothing b own _
+  stays (Data space width handle address (Write value)) =
       ifAt (placeFor b (bytes width) (spaceNumber space) handle (address .0))
       (λ at order e. rw e (cells-and-own _ b _ own own _ (written-alike order _ at value (b .cells)) (alike _ own)))
       (λ r e. rw e (keeps _ b own _))
-  stays (BusToCpu handle address) = keeps (mayTouch b (BusToCpu handle address) own) b own _
-  stays (CpuToBus handle address) = keeps (mayTouch b (CpuToBus handle address) own) b own _
   stays (GetResource handle) = stays-resource b own handle
   stays (HookInterrupt handle handler parameter) = stays-hook b own handle handler parameter
   stays (UnhookInterrupt handle) = stays-unhook b own handle
-  stays (ListChain line place) = keeps (mayTouch b (ListChain line place) own) b own _
-  stays (GetCardUsed handle) = keeps (mayTouch b (GetCardUsed handle) own) b own _
   stays (SetCardUsed handle status callBack) = stays-used b own handle status callBack
-  stays (SpecialCycle bus message) = keeps (mayTouch b (SpecialCycle bus message) own) b own _
-  stays (GetRouting handle) = keeps (mayTouch b (GetRouting handle) own) b own _
-  stays (SetInterrupt handle mode) = keeps (mayTouch b (SetInterrupt handle mode) own) b own _
-  stays (ListWindow n) = keeps (mayTouch b (ListWindow n) own) b own _
+  stays (Ask query) = keeps nothing b own _
 
 framed : (b : Reference) → Sound b → (c : Asked) → Framed (mayTouch b (c .call) (c .own)) (partsOf b) (c .own) (stepOn (partsOf b) c)
 framed b s c = rw (same b s (c .call) (c .own) .answer, same b s (c .call) (c .own) .parts, same b s (c .call) (c .own) .own) (stays b s (c .own) (c .call))

@@ -1,6 +1,5 @@
 -- The laws and the claims' proofs.
 pub mod Tests
-pub mod Signed
 pub mod Records
 pub mod Registers
 pub mod Same
@@ -19,6 +18,7 @@ pub mod Simulation
 pub mod Refinement
 pub mod Verdicts
 pub mod Refused
+pub mod QueryRefused
 pub mod Refusal
 pub mod Alike
 pub mod Stays

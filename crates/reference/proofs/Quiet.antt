@@ -8,8 +8,9 @@ use Rattle.numbers.specs.Numbers.{bytes}
 use Rattle.find_window.specs.Find.{spaceNumber}
 use Rattle.data_cells.specs.declared.place.Place.{Place}
 use Rattle.data_cells.specs.declared.place.Place.the-variants.{At, Refused as NoPlace}
-use Rattle.reference.specs.declared.Call.{Call}
-use Rattle.reference.specs.declared.Call.the-variants.{Load, Reset, WriteImage, FindPciDevice, FindPciClasscode, ReadConfig, FastReadConfig, WriteConfig, ReadData, FastReadData, WriteData, BusToCpu, CpuToBus, GetResource, HookInterrupt, UnhookInterrupt, ListChain, GetCardUsed, SetCardUsed, SpecialCycle, GetRouting, SetInterrupt, ListWindow}
+use Rattle.call.specs.declared.call.Call.{Call}
+use Rattle.call.specs.declared.call.Access.the-variants.{Read, FastRead, Write}
+use Rattle.call.specs.declared.call.Call.the-variants.{Load, Reset, WriteImage, Config, Data, GetResource, HookInterrupt, UnhookInterrupt, SetCardUsed, Ask}
 use Rattle.reference.specs.Reference.{Reference, writeDataOf, referenceStep}
 use Rattle.reference.specs.Claims.{struckOut}
 use Rattle.reference.proofs.InSlot.{InSlot, in-slot}
@@ -36,24 +37,13 @@ unfolding referenceStep
 quiet l Load own t = absurd (false≢true t)
 quiet l Reset own t = absurd (false≢true t)
 quiet l WriteImage own t = absurd (false≢true t)
-quiet l (FindPciDevice id index) own t = absurd (false≢true t)
-quiet l (FindPciClasscode class index) own t = absurd (false≢true t)
-quiet l (ReadConfig width handle register) own t = absurd (false≢true t)
-quiet l (FastReadConfig width handle register) own t = absurd (false≢true t)
-quiet l (WriteConfig width handle register value) own t = absurd (false≢true t)
-quiet l (ReadData space width handle address) own t = l
-quiet l (FastReadData space width handle address) own t = l
-quiet {h} {b} l (WriteData space width handle address value) own t =
+quiet l (Config width handle register access) own t = absurd (false≢true t)
+quiet l (Data space width handle address Read) own t = l
+quiet l (Data space width handle address FastRead) own t = l
+quiet {h} {b} l (Data space width handle address (Write value)) own t =
     hidden l (bytes width) handle value own (eqb-true handle h t) _ (in-slot b width (spaceNumber space) handle (address .0))
-quiet l (BusToCpu handle address) own t = absurd (false≢true t)
-quiet l (CpuToBus handle address) own t = absurd (false≢true t)
 quiet l (GetResource handle) own t = absurd (false≢true t)
 quiet l (HookInterrupt handle handler parameter) own t = absurd (false≢true t)
 quiet l (UnhookInterrupt handle) own t = absurd (false≢true t)
-quiet l (ListChain line place) own t = absurd (false≢true t)
-quiet l (GetCardUsed handle) own t = absurd (false≢true t)
 quiet l (SetCardUsed handle status callBack) own t = absurd (false≢true t)
-quiet l (SpecialCycle bus message) own t = absurd (false≢true t)
-quiet l (GetRouting handle) own t = absurd (false≢true t)
-quiet l (SetInterrupt handle mode) own t = absurd (false≢true t)
-quiet l (ListWindow n) own t = absurd (false≢true t)
+quiet l (Ask query) own t = l

@@ -1,9 +1,9 @@
 -- Claim 1: a refused call changes nothing and gives a stated number and the filler.
-use Prim.Native.Nat.{ℕ, zero, suc}
+use Prim.Native.Nat.{ℕ}
 use mathlib.Core.Bool.{false≢true}
 use mathlib.Core.Logic.{inl, inr}
 use mathlib.Core.Path.{_≡_, refl}
-use mathlib.Core.List.{List, [], _∷_}
+use mathlib.Core.List.{List}
 use lib.Dec.{ltb, eqb}
 use lib.ListN.{length, getD}
 use Rattle.board.specs.Parts.{Parts, withRegisters}
@@ -12,16 +12,12 @@ use Rattle.board.specs.declared.address.BusAddress.{BusAddress}
 use Rattle.numbers.specs.declared.number.Width.{Width}
 use Rattle.board.specs.declared.status.Status.{Status}
 use Rattle.numbers.specs.Numbers.{bytes}
-use Rattle.board.specs.Statuses.{deviceNotFound, badRegisterNumber, badHandle}
+use Rattle.board.specs.Statuses.{badRegisterNumber, badHandle}
 use Rattle.board.specs.Handles.{functionCount, isHandle}
-use Rattle.window.specs.Window.{Window}
-use Rattle.window.specs.Kept.{unpacked}
-use Rattle.window_listing.specs.Listing.{listing, numberOf, valuesOf}
 use Rattle.config_read.specs.Target.{target}
 use Rattle.config_read.specs.declared.target.Target.{Target}
 use Rattle.config_read.specs.declared.target.Target.the-variants.{Function, Refused}
 use Rattle.config.specs.Write.{writeConfig}
-use Rattle.search.specs.Search.{searched, foundNumber}
 use Rattle.data_cells.specs.Cells.{placeOf, dataPlace}
 use Rattle.find_window.specs.Find.{spaceNumber}
 use Rattle.find_window.specs.declared.find.Finding.{Finding}
@@ -33,30 +29,16 @@ use Rattle.image_format.specs.Image.{imageSize}
 use Rattle.reset.specs.Reset.{reset}
 use Rattle.load.specs.Load.{load}
 use Rattle.image_writer.specs.Write.{write}
-use Rattle.reference.specs.declared.Call.{Call}
-use Rattle.reference.specs.declared.Call.the-variants.{Load, Reset, WriteImage, FindPciDevice, FindPciClasscode, ReadConfig, FastReadConfig, WriteConfig, ReadData, FastReadData, WriteData, BusToCpu, CpuToBus, GetResource, HookInterrupt, UnhookInterrupt, ListChain, GetCardUsed, SetCardUsed, SpecialCycle, GetRouting, SetInterrupt, ListWindow}
-use Rattle.reference.specs.Answers.{answer, ofStatus, ofSearch}
-use Rattle.reference.specs.State.{next, step}
-use Rattle.reference.specs.Claims.{dataRefusals, Among, refusals, Filler, Refusal}
+use Rattle.call.specs.declared.call.Call.{Call}
+use Rattle.call.specs.declared.call.Access.the-variants.{Read, FastRead, Write}
+use Rattle.call.specs.declared.call.Call.the-variants.{Load, Reset, WriteImage, Config, Data, GetResource, HookInterrupt, UnhookInterrupt, SetCardUsed, Ask}
+use Rattle.call.specs.Answers.{ofStatus}
+use Rattle.reference.specs.State.{next, blanked, step}
+use Rattle.reference.specs.Claims.{dataRefusals, Among, Refusal}
 use Rattle.reference.proofs.Tests.{ifTest, ifEither, ifTarget, ifAt}
 use Rattle.reference.proofs.Verdicts.{stated, ifVerdict}
-use Rattle.reference.proofs.Refused.{Kept, not-refused, untouched, kept-resource, kept-hook, kept-unhook, kept-chain, kept-get-used, kept-set-used}
-
--- a listing refuses exactly past the end
-list-kept : (p : Parts) (own : List ℕ) (n : ℕ) (l : List Window) (m : ℕ)
-    → Kept p (ListWindow n) own (next (answer (numberOf (listing l m)) (valuesOf (listing l m))) p own)
-unfolding listing
-list-kept p own n [] m = λ e. untouched (inl refl) refl
-list-kept p own n (w ∷ l) zero = λ e. not-refused e
-list-kept p own n (w ∷ l) (suc m) = list-kept p own n l m
-
--- a search refuses exactly where there is no such match
-search-kept : (p : Parts) (c : Call) (own : List ℕ) → Among (deviceNotFound .0) (refusals c) → Filler c (ofSearch (deviceNotFound .0))
-    → (hs : List ℕ) (m : ℕ) → Kept p c own (next (ofSearch (foundNumber (searched hs m))) p own)
-unfolding searched
-search-kept p c own n f [] m = λ e. untouched n f
-search-kept p c own n f (h ∷ hs) zero = λ e. not-refused e
-search-kept p c own n f (h ∷ hs) (suc m) = search-kept p c own n f hs m
+use Rattle.reference.proofs.Refused.{Kept, not-refused, untouched, kept-resource, kept-hook, kept-unhook, kept-set-used}
+use Rattle.reference.proofs.QueryRefused.{query-stated}
 
 -- what a configuration access of w bytes is for
 abbrev targetAt : Parts → ℕ → ℕ → ℕ → Target
@@ -70,7 +52,7 @@ ifFunction {X} p w handle register f r h =
 
 -- a write of any w bytes
 write-kept : (p : Parts) (own : List ℕ) (width : Width) (w handle register value : ℕ)
-    → Kept p (WriteConfig width handle register value) own
+    → Kept p (Config width handle register (Write value)) own
     (let o = writeConfig w (p .header) (p .records) (p .registers) (p .windows) handle register value in
     next (ofStatus (o .status)) (withRegisters (o .registers) (o .windows) p) own)
 write-kept p own width w handle register value =
@@ -117,39 +99,26 @@ refusal p WriteImage own =
     ifEither (eqb (functionCount (p .header)) 0)
     (λ z. rw (e, z) (λ f. untouched (inr (inl refl)) refl))
     (λ z. rw (e, z) (λ f. not-refused f)))
-refusal p (FindPciDevice id index) own = search-kept p (FindPciDevice id index) own (inl refl) refl _ index
-refusal p (FindPciClasscode class index) own = search-kept p (FindPciClasscode class index) own (inl refl) refl _ index
-refusal p (ReadConfig width handle register) own =
+refusal p (Config width handle register Read) own =
     ifFunction p (bytes width) handle register (λ i e. rw e (λ f. not-refused f))
     (λ e. rw e (λ f. untouched (inr (inl refl)) refl))
     (λ e. rw e (λ f. untouched (inl refl) refl))
-refusal p (FastReadConfig width handle register) own =
+refusal p (Config width handle register FastRead) own =
     ifFunction p (bytes width) handle register (λ i e. rw e (λ f. not-refused f))
     (λ e. rw e (λ f. untouched (inl refl) refl))
     (λ e. rw e (λ f. untouched (inl refl) refl))
-refusal p (WriteConfig width handle register value) own = write-kept p own width _ handle register value
-refusal p (ReadData space width handle address) own =
+refusal p (Config width handle register (Write value)) own = write-kept p own width _ handle register value
+refusal p (Data space width handle address Read) own =
     ifPlace p space width handle address (λ at order e. rw e (λ f. not-refused f))
     (λ s a e. rw e (λ f. untouched a refl))
-refusal p (FastReadData space width handle address) own =
+refusal p (Data space width handle address FastRead) own =
     ifPlace p space width handle address (λ at order e. rw e (λ f. not-refused f))
     (λ s a e. rw e (λ f. untouched (inl refl) refl))
-refusal p (WriteData space width handle address value) own =
+refusal p (Data space width handle address (Write value)) own =
     ifPlace p space width handle address (λ at order e. rw e (λ f. not-refused f))
     (λ s a e. rw e (λ f. untouched a refl))
-refusal p (BusToCpu handle address) own =
-    ifEither (isHandle (p .header) handle) (λ e. rw e (λ f. not-refused f))
-    (λ e. rw e (λ f. untouched (inl refl) refl))
-refusal p (CpuToBus handle address) own =
-    ifEither (isHandle (p .header) handle) (λ e. rw e (λ f. not-refused f))
-    (λ e. rw e (λ f. untouched (inl refl) refl))
 refusal p (GetResource handle) own = kept-resource p own handle
 refusal p (HookInterrupt handle handler parameter) own = kept-hook p own handle handler parameter
 refusal p (UnhookInterrupt handle) own = kept-unhook p own handle
-refusal p (ListChain line place) own = kept-chain p own line place
-refusal p (GetCardUsed handle) own = kept-get-used p own handle
 refusal p (SetCardUsed handle status callBack) own = kept-set-used p own handle status callBack
-refusal p (SpecialCycle bus message) own = λ f. untouched (inl refl) refl
-refusal p (GetRouting handle) own = λ f. untouched (inl refl) refl
-refusal p (SetInterrupt handle mode) own = λ f. untouched (inl refl) refl
-refusal p (ListWindow n) own = list-kept p own n (unpacked (p .windows)) n
+refusal p (Ask query) own = λ e. let s = query-stated (blanked p) query e in untouched (s .0) (s .1)

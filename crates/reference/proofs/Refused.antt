@@ -1,25 +1,22 @@
--- Claim 1 for resource, hooks, chains and used marks.
-use Prim.Native.Nat.{ℕ, zero, suc, _-_, _*_}
+-- Claim 1 for resource, hooks and set used.
+use Prim.Native.Nat.{ℕ, _*_}
 use mathlib.Core.Bool.{true, false, false≢true}
 use mathlib.Core.Logic.{inl, inr}
 use mathlib.Core.Path.{_≡_, refl}
-use mathlib.Core.List.{List, [], _∷_}
+use mathlib.Core.List.{List}
 use lib.Dec.{eqb, leb, ltb}
 use lib.ListN.{length}
 use Rattle.board.specs.Parts.{Parts, withHooks, withUsed}
 use Rattle.board.specs.Handles.{isHandle}
 use Rattle.descriptor.specs.Descriptor.{size}
 use Rattle.resource.specs.Resource.{Gave, windowBases, resource, sourceOf}
-use Rattle.hooks.specs.Hooks.{Hook, lineOf, pinOf, lastLine, isRouted, chainOf}
+use Rattle.hooks.specs.Hooks.{lineOf, pinOf, isRouted}
 use Rattle.interrupt.specs.Chain.{Changed, isHooked, isFree}
-use Rattle.chain_listing.specs.Listing.{listed, chainNumberOf, chainValuesOf}
 use Rattle.card_used.specs.Used.{Marked}
-use Rattle.chain_listing.specs.declared.listing.ChainListing.{ChainListing}
-use Rattle.card_used.specs.declared.used.CardUsed.{CardUsed}
-use Rattle.reference.specs.declared.Answer.{Answer}
-use Rattle.reference.specs.declared.Call.{Call}
-use Rattle.reference.specs.declared.Call.the-variants.{GetResource, HookInterrupt, UnhookInterrupt, ListChain, GetCardUsed, SetCardUsed}
-use Rattle.reference.specs.Answers.{ofStatus, ofChain, ofUsed}
+use Rattle.call.specs.declared.answer.Answer.{Answer}
+use Rattle.call.specs.declared.call.Call.{Call}
+use Rattle.call.specs.declared.call.Call.the-variants.{GetResource, HookInterrupt, UnhookInterrupt, SetCardUsed}
+use Rattle.call.specs.Answers.{ofStatus}
 use Rattle.reference.specs.State.{Next, next, step}
 use Rattle.reference.specs.Claims.{Among, refusals, Filler, Untouched}
 use Rattle.reference.proofs.Tests.{ifTest}
@@ -73,28 +70,6 @@ module _ (p : Parts) (own : List ℕ) where
       (λ g.
       ifTest P (isHooked (p .hooks) handle) (λ t f. not-refused f)
       (λ t f. untouched (inr (inl refl)) refl))
-      (λ g f. untouched (inl refl) refl)
-
-  -- what a listing of a chain gives
-  abbrev Lists : ℕ → ℕ → ChainListing → Type 0
-  Lists line place l = Kept p (ListChain line place) own (next (ofChain (chainNumberOf l) (chainValuesOf l)) p own)
-
-  listed-kept : (line place : ℕ) (chain : List Hook) (n : ℕ) → Lists line place (listed chain n)
-  unfolding listed
-  listed-kept line place [] n f = untouched (inr (inl refl)) refl
-  listed-kept line place (h ∷ hs) zero f = not-refused f
-  listed-kept line place (h ∷ hs) (suc n) f = listed-kept line place hs n f
-
-  pub kept-chain : (line place : ℕ) → Kept p (ListChain line place) own (step p (ListChain line place) own)
-  unfolding step
-  kept-chain line place =
-      ifTest (Lists line place) (ltb lastLine line) (λ e f. untouched (inl refl) refl)
-      (λ e. listed-kept line place (chainOf (p .records) (p .hooks) line) place)
-
-  pub kept-get-used : (handle : ℕ) → Kept p (GetCardUsed handle) own (step p (GetCardUsed handle) own)
-  unfolding step
-  kept-get-used handle =
-      ifTest (λ (u : CardUsed). Kept p (GetCardUsed handle) own (next (ofUsed u) p own)) (isHandle (p .header) handle) (λ g f. not-refused f)
       (λ g f. untouched (inl refl) refl)
 
   pub kept-set-used : (handle status callBack : ℕ)

@@ -9,8 +9,8 @@ use Rattle.board.specs.Handles.{isHandle}
 use Rattle.board.specs.Layout.{bases, entriesAt, entrySize, offsetAt, dmaOffsetAt}
 use Rattle.window_list.proofs.KeptArray.{kept-of}
 use Rattle.resource.specs.Resource.{isWindow, windowsFrom, windowBases, Source, descriptorOf, described, Gave, resource, sourceOf}
-use Rattle.reference.specs.declared.Call.the-variants.{GetResource}
-use Rattle.reference.specs.Answers.{ofStatus}
+use Rattle.call.specs.declared.call.Call.the-variants.{GetResource}
+use Rattle.call.specs.Answers.{ofStatus}
 use Rattle.reference.specs.State.{step}
 use Rattle.reference.specs.Reference.{Reference, exponentOf, isHandleOf, sourceFor, referenceStep}
 use Rattle.reference.specs.Run.{partsOf}

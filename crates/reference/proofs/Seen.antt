@@ -21,9 +21,10 @@ use Rattle.interrupt.specs.Meaning.{isAmong}
 use Rattle.card_used.specs.Used.{Mark}
 use Rattle.cells.specs.Cells.{total}
 use Rattle.image_format.specs.Image.{imageSize}
-use Rattle.reference.specs.declared.Answer.{Answer}
-use Rattle.reference.specs.declared.Call.{Call}
-use Rattle.reference.specs.declared.Call.the-variants.{Load, Reset, WriteImage, FindPciDevice, FindPciClasscode, ReadConfig, FastReadConfig, WriteConfig, ReadData, FastReadData, WriteData, BusToCpu, CpuToBus, GetResource, HookInterrupt, UnhookInterrupt, ListChain, GetCardUsed, SetCardUsed, SpecialCycle, GetRouting, SetInterrupt, ListWindow}
+use Rattle.call.specs.declared.answer.Answer.{Answer}
+use Rattle.call.specs.declared.call.Call.{Call}
+use Rattle.call.specs.declared.call.Access.the-variants.{Read, FastRead, Write}
+use Rattle.call.specs.declared.call.Call.the-variants.{Load, Reset, WriteImage, Config, Data, GetResource, HookInterrupt, UnhookInterrupt, SetCardUsed, Ask}
 use Rattle.reference.specs.Reference.{Reference, Told, told, exponentOf, fresh, imageRecords, verdict, isHandleOf, targetOf, withCellsOf, lineFor, pinFor, withChainOf, withMarkOf, placeIn, placeFor, writeOf, writeDataOf, referenceStep}
 use Rattle.reference.specs.Claims.{struckOut}
 use Rattle.reference.proofs.Tests.{ifBoth}
@@ -132,32 +133,23 @@ module _ {h : ℕ} (b : Reference) (m : List ℕ) (l : Like h b (withCellsOf m b
   seen-with Load t = seen-load
   seen-with Reset t = seen-reset
   seen-with WriteImage t = seen-image
-  seen-with (FindPciDevice id index) t = both-told l
-  seen-with (FindPciClasscode class index) t = both-told l
-  seen-with (ReadConfig width handle register) t = both-told l
-  seen-with (FastReadConfig width handle register) t = both-told l
-  seen-with (WriteConfig width handle register value) t = seen-config (bytes width) register value (targetOf b (bytes width) handle register)
-  seen-with (ReadData space width handle address) t =
+  seen-with (Config width handle register Read) t = both-told l
+  seen-with (Config width handle register FastRead) t = both-told l
+  seen-with (Config width handle register (Write value)) t = seen-config (bytes width) register value (targetOf b (bytes width) handle register)
+  seen-with (Data space width handle address Read) t =
       let r = reads (bytes width) handle (eqb-false handle h t) _ (in-slot b width (spaceNumber space) handle (address .0)) in
       rw (← l .others .room, place-same, r .0) (both-told l)
-  seen-with (FastReadData space width handle address) t =
+  seen-with (Data space width handle address FastRead) t =
       let r = reads (bytes width) handle (eqb-false handle h t) _ (in-slot b width (spaceNumber space) handle (address .0)) in
       rw (← l .others .room, place-same, r .1) (both-told l)
-  seen-with (WriteData space width handle address value) t =
+  seen-with (Data space width handle address (Write value)) t =
       rw (← l .others .room, place-same)
       (seen-write (bytes width) value (placeFor b (bytes width) (spaceNumber space) handle (address .0)))
-  seen-with (BusToCpu handle address) t = both-told l
-  seen-with (CpuToBus handle address) t = both-told l
   seen-with (GetResource handle) t = both-told l
   seen-with (HookInterrupt handle handler parameter) t = seen-hook handle handler parameter
   seen-with (UnhookInterrupt handle) t = seen-unhook handle
-  seen-with (ListChain line place) t = both-told l
-  seen-with (GetCardUsed handle) t = both-told l
   seen-with (SetCardUsed handle status callBack) t = seen-used handle status callBack
-  seen-with (SpecialCycle bus message) t = both-told l
-  seen-with (GetRouting handle) t = both-told l
-  seen-with (SetInterrupt handle mode) t = both-told l
-  seen-with (ListWindow n) t = both-told l
+  seen-with (Ask query) t = rw (← l .others .room) (both-told l)
 
 pub seen : {h : ℕ} {b d : Reference} → Like h b d → (c : Call) (own : List ℕ) → struckOut h c ≡ false
     → Both h (referenceStep b c own) (referenceStep d c own)

@@ -4,7 +4,7 @@ use native.Mathlib.Omega.{arith}
 use mathlib.Core.Path.{_≡_, refl, ap}
 use mathlib.Core.List.{List, [], _++_}
 use lib.Dec.{ltb, eqb}
-use lib.ListN.{length, replicate, drop}
+use lib.ListN.{length, replicate, drop, length-replicate}
 use lib.Seq.{take-at}
 use Rattle.numbers.specs.Tables.{tableFrom}
 use Rattle.board.specs.Layout.{functionsMax, recordSize, registersEach, windowsMax}
@@ -20,16 +20,19 @@ use Rattle.load.specs.Load.{padded, load}
 use Rattle.image_writer.specs.Write.{write}
 use Rattle.reset.proofs.Zeroed.{zeroed-length}
 use Rattle.cells.proofs.Ranges.{offset-at}
-use Rattle.reference.specs.declared.Call.{Call}
-use Rattle.reference.specs.declared.Call.the-variants.{Load, Reset, WriteImage, FindPciDevice, FindPciClasscode, ReadConfig, FastReadConfig, WriteConfig, ReadData, FastReadData, WriteData, BusToCpu, CpuToBus, GetResource, HookInterrupt, UnhookInterrupt, ListChain, GetCardUsed, SetCardUsed, SpecialCycle, GetRouting, SetInterrupt, ListWindow}
-use Rattle.reference.specs.State.{step}
-use Rattle.reference.specs.Reference.{Reference, exponentOf, joined, fresh, imageRecords, windowsOf, imageBytes, verdict, referenceStep, referenceStart}
+use Rattle.call.specs.declared.call.Call.{Call}
+use Rattle.call.specs.declared.call.Access.the-variants.{Read, FastRead, Write}
+use Rattle.call.specs.declared.call.Call.the-variants.{Load, Reset, WriteImage, Config, Data, GetResource, HookInterrupt, UnhookInterrupt, SetCardUsed, Ask}
+use Rattle.call.specs.declared.call.Query.{Query}
+use Rattle.call.specs.declared.call.Query.the-variants.{FindPciDevice, FindPciClasscode, BusToCpu, CpuToBus, ListChain, GetCardUsed, SpecialCycle, GetRouting, SetInterrupt, ListWindow}
+use Rattle.reference.specs.State.{step, queried}
+use Rattle.reference.specs.Reference.{Reference, exponentOf, joined, fresh, imageRecords, windowsOf, imageBytes, verdict, blankedOf, referenceStep, referenceQueried, referenceStart}
 use Rattle.reference.specs.Run.{partsOf, start}
 use Rattle.reference.proofs.Tests.{ifEither}
 use Rattle.reference.proofs.Records.{Sized, joined-length}
 use Rattle.reference.proofs.Same.{verdict-same, accepted-whole, installed-same, restart-same, no-hooks, no-marks}
 use Rattle.reference.proofs.Chained.{no-chains}
-use Rattle.reference.proofs.Sound.{Sound, Simulated, as-told, count-same}
+use Rattle.reference.proofs.Sound.{Sound, Simulated, Answered, as-told, answered, count-same}
 use Rattle.reference.proofs.Configuration.{same-device, same-class, same-read, same-fast-read, same-write-config}
 use Rattle.reference.proofs.Data.{same-read-data, same-fast-read-data, same-write-data, same-bus-to-cpu, same-cpu-to-bus}
 use Rattle.reference.proofs.Resource.{same-resource}
@@ -85,37 +88,49 @@ module _ (b : Reference) (s : Sound b) where
       ifEither (eqb (length (b .records)) 0) (λ z. rw (e, z) (as-told b s))
       (λ z. rw (e, z) (record { answer = refl; parts = refl; own = ap (λ l. l ++ drop (imageSize (length (b .records))) own) image-same; sound = s }))))
 
-  same-list : (n : ℕ) (own : List ℕ) → Simulated b (ListWindow n) own
-  unfolding step referenceStep partsOf
-  same-list n own =
+  same-list : (n : ℕ) → Answered b (ListWindow n)
+  unfolding queried referenceQueried partsOf
+  same-list n =
       rw (kept-of (length (b .records)) (exponentOf (b .records)) (b .registers) (s .few), number-is (windowsOf b) n, values-are (windowsOf b) n)
-      (as-told b s)
+
+  same-query : (q : Query) → Answered b q
+  unfolding queried referenceQueried
+  same-query (FindPciDevice id index) = same-device b s id index
+  same-query (FindPciClasscode class index) = same-class b s class index
+  same-query (BusToCpu handle address) = same-bus-to-cpu b s handle address
+  same-query (CpuToBus handle address) = same-cpu-to-bus b s handle address
+  same-query (ListChain line place) = same-list-chain b s line place
+  same-query (GetCardUsed handle) = same-get-used b s handle
+  same-query (SpecialCycle bus message) = refl
+  same-query (GetRouting handle) = refl
+  same-query (SetInterrupt handle mode) = refl
+  same-query (ListWindow n) = same-list n
+
+-- the board that a query sees
+blanked-sound : (b : Reference) → Sound b → Sound (blankedOf b)
+blanked-sound b s = record { few = s .few; sized = s .sized; fits = rw length-replicate (s .fits); chained = s .chained }
+
+module _ (b : Reference) (s : Sound b) where
+  same-ask : (q : Query) (own : List ℕ) → Simulated b (Ask q) own
+  unfolding step referenceStep partsOf
+  same-ask q own = answered b s (same-query (blankedOf b) (blanked-sound b s) q)
 
   pub same : (c : Call) (own : List ℕ) → Simulated b c own
   unfolding step referenceStep
-  same Load own = same-load own
-  same Reset own = same-reset own
-  same WriteImage own = same-write own
-  same (FindPciDevice id index) own = same-device b s id index own
-  same (FindPciClasscode class index) own = same-class b s class index own
-  same (ReadConfig width handle register) own = same-read b s width handle register own
-  same (FastReadConfig width handle register) own = same-fast-read b s width handle register own
-  same (WriteConfig width handle register value) own = same-write-config b s width handle register value own
-  same (ReadData space width handle address) own = same-read-data b s space width handle address own
-  same (FastReadData space width handle address) own = same-fast-read-data b s space width handle address own
-  same (WriteData space width handle address value) own = same-write-data b s space width handle address value own
-  same (BusToCpu handle address) own = same-bus-to-cpu b s handle address own
-  same (CpuToBus handle address) own = same-cpu-to-bus b s handle address own
+  same Load own = same-load b s own
+  same Reset own = same-reset b s own
+  same WriteImage own = same-write b s own
+  same (Config width handle register Read) own = same-read b s width handle register own
+  same (Config width handle register FastRead) own = same-fast-read b s width handle register own
+  same (Config width handle register (Write value)) own = same-write-config b s width handle register value own
+  same (Data space width handle address Read) own = same-read-data b s space width handle address own
+  same (Data space width handle address FastRead) own = same-fast-read-data b s space width handle address own
+  same (Data space width handle address (Write value)) own = same-write-data b s space width handle address value own
   same (GetResource handle) own = same-resource b s handle own
   same (HookInterrupt handle handler parameter) own = same-hook b s handle handler parameter own
   same (UnhookInterrupt handle) own = same-unhook b s handle own
-  same (ListChain line place) own = same-list-chain b s line place own
-  same (GetCardUsed handle) own = same-get-used b s handle own
   same (SetCardUsed handle status callBack) own = same-set-used b s handle status callBack own
-  same (SpecialCycle bus message) own = as-told b s
-  same (GetRouting handle) own = as-told b s
-  same (SetInterrupt handle mode) own = as-told b s
-  same (ListWindow n) own = same-list n own
+  same (Ask query) own = same-ask query own
 
 no-cells : total (exponentOf []) ≡ 0
 unfolding cellsBefore

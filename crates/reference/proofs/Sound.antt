@@ -11,10 +11,11 @@ use Rattle.board.specs.Handles.{isHandle}
 use Rattle.board.specs.Layout.{functionsMax}
 use Rattle.numbers.proofs.Tests.{both-true}
 use Rattle.cells.specs.Cells.{total}
-use Rattle.reference.specs.declared.Answer.{Answer}
-use Rattle.reference.specs.declared.Call.{Call}
-use Rattle.reference.specs.State.{Next, next, step}
-use Rattle.reference.specs.Reference.{Reference, Told, told, exponentOf, isHandleOf, referenceStep}
+use Rattle.call.specs.declared.answer.Answer.{Answer}
+use Rattle.call.specs.declared.call.Call.{Call}
+use Rattle.call.specs.declared.call.Query.{Query}
+use Rattle.reference.specs.State.{Next, next, step, queried}
+use Rattle.reference.specs.Reference.{Reference, Told, told, exponentOf, isHandleOf, referenceStep, referenceQueried}
 use Rattle.reference.specs.Run.{partsOf}
 use Rattle.reference.proofs.Records.{Sized}
 use Rattle.reference.proofs.Chained.{Chained}
@@ -34,6 +35,10 @@ pub record Same (n : Next) (t : Told) : Type 0 where
 -- the program's step on the parts of a reference state is the reference machine's step
 abbrev pub Simulated : Reference → Call → List ℕ → Type 0
 Simulated b c own = Same (step (partsOf b) c own) (referenceStep b c own)
+
+-- and so is its answer to a query
+abbrev pub Answered : Reference → Query → Type 0
+Answered b q = queried (partsOf b) q ≡ referenceQueried b q
 
 module _ (b : Reference) (s : Sound b) where
   -- an answer beside the parts of the state itself

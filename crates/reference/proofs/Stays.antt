@@ -18,9 +18,9 @@ use Rattle.resource.proofs.Shows.{described-size}
 use Rattle.hooks.specs.Hooks.{Hook, isRouted}
 use Rattle.interrupt.specs.Meaning.{isAmong}
 use Rattle.card_used.specs.Used.{Mark, markNumber}
-use Rattle.reference.specs.declared.Answer.{Answer}
-use Rattle.reference.specs.declared.Call.the-variants.{GetResource, HookInterrupt, UnhookInterrupt, SetCardUsed}
-use Rattle.reference.specs.Answers.{ofStatus}
+use Rattle.call.specs.declared.answer.Answer.{Answer}
+use Rattle.call.specs.declared.call.Call.the-variants.{GetResource, HookInterrupt, UnhookInterrupt, SetCardUsed}
+use Rattle.call.specs.Answers.{ofStatus}
 use Rattle.reference.specs.State.{next}
 use Rattle.reference.specs.Reference.{Reference, Told, told, isHandleOf, withCellsOf, sourceFor, lineFor, pinFor, withChainOf, withMarkOf, referenceStep}
 use Rattle.reference.specs.Run.{partsOf}

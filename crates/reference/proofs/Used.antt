@@ -10,24 +10,24 @@ use Rattle.board.specs.Parts.{withUsed}
 use Rattle.card_used.specs.Used.{newMark, usedOf, Marked}
 use Rattle.card_used.specs.declared.used.CardUsed.{CardUsed}
 use Rattle.card_used.proofs.Marks.{marks-at, marks-put}
-use Rattle.reference.specs.declared.Call.the-variants.{GetCardUsed, SetCardUsed}
-use Rattle.reference.specs.Answers.{ofStatus, ofUsed}
-use Rattle.reference.specs.State.{next, step}
-use Rattle.reference.specs.Reference.{Reference, Told, isHandleOf, referenceStep}
+use Rattle.call.specs.declared.call.Call.the-variants.{SetCardUsed}
+use Rattle.call.specs.declared.call.Query.the-variants.{GetCardUsed}
+use Rattle.call.specs.Answers.{ofStatus, ofUsed}
+use Rattle.reference.specs.State.{next, step, queried}
+use Rattle.reference.specs.Reference.{Reference, Told, isHandleOf, referenceStep, referenceQueried}
 use Rattle.reference.specs.Run.{partsOf}
 use Rattle.reference.proofs.Tests.{ifBoth, ifAlike}
-use Rattle.reference.proofs.Sound.{Sound, Same, Simulated, as-told, answered, handle-same, handle-within}
+use Rattle.reference.proofs.Sound.{Sound, Same, Simulated, Answered, as-told, handle-same, handle-within}
 
 module _ (b : Reference) (s : Sound b) where
   -- the function of a good handle has a mark
   marked : (handle : ℕ) → isHandleOf b handle ≡ true → handle - 1 < functionsMax
   marked handle g = let k = handle-within b handle g in omega (arith, s .few, k .0, k .1)
 
-  pub same-get-used : (handle : ℕ) (own : List ℕ) → Simulated b (GetCardUsed handle) own
-  unfolding step referenceStep partsOf
-  same-get-used handle own =
-      answered b s
-      (ap ofUsed (ifAlike (λ (x y : CardUsed). x ≡ y) (handle-same b s handle) (λ g. ap (usedOf true) (marks-at (b .used) (handle - 1) (marked handle g))) (λ g. refl)))
+  pub same-get-used : (handle : ℕ) → Answered b (GetCardUsed handle)
+  unfolding queried referenceQueried partsOf
+  same-get-used handle =
+      ap ofUsed (ifAlike (λ (x y : CardUsed). x ≡ y) (handle-same b s handle) (λ g. ap (usedOf true) (marks-at (b .used) (handle - 1) (marked handle g))) (λ g. refl))
 
   pub same-set-used : (handle status callBack : ℕ) (own : List ℕ) → Simulated b (SetCardUsed handle status callBack) own
   unfolding step referenceStep partsOf

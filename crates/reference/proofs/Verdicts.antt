@@ -12,7 +12,7 @@ use Rattle.image_format.specs.Image.{trailerSize, imageSize}
 use Rattle.refusals.specs.Refusals.{Facts, imageMax, cellsMax, accepted, refused, badRecord, firstRefusal}
 use Rattle.image.specs.Check.{factsOf, checked}
 use Rattle.refusals.specs.declared.verdict.Verdict.{Verdict}
-use Rattle.reference.specs.declared.Call.the-variants.{Load}
+use Rattle.call.specs.declared.call.Call.the-variants.{Load}
 use Rattle.reference.specs.Claims.{Among, refusals}
 use Rattle.reference.proofs.Tests.{ifTest}
 

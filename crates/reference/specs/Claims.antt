@@ -10,6 +10,7 @@ use lib.ListN.{length, getD, replicate}
 use Rattle.board.specs.Parts.{Parts}
 use Rattle.board.specs.Layout.{bases, registersEach, markSize}
 use Rattle.numbers.specs.Numbers.{bytes}
+use Rattle.numbers.specs.declared.number.Width.{Width}
 use Rattle.board.specs.Statuses.{funcNotSupported, deviceNotFound, badRegisterNumber, bufferTooSmall, generalError, badHandle, setFailed}
 use Rattle.config.specs.Write.{movesWindows}
 use Rattle.find_window.specs.Find.{spaceNumber}
@@ -19,10 +20,15 @@ use Rattle.descriptor.specs.Descriptor.{size}
 use Rattle.resource.specs.Resource.{windowBases}
 use Rattle.cells.specs.Cells.{slotCells, cellsBefore, total}
 use Rattle.image_format.specs.Image.{imageSize}
-use Rattle.reference.specs.declared.Answer.{Answer}
-use Rattle.reference.specs.declared.Call.{Call}
-use Rattle.reference.specs.declared.Call.the-variants.{Load, Reset, WriteImage, FindPciDevice, FindPciClasscode, ReadConfig, FastReadConfig, WriteConfig, ReadData, FastReadData, WriteData, BusToCpu, CpuToBus, GetResource, HookInterrupt, UnhookInterrupt, ListChain, GetCardUsed, SetCardUsed, SpecialCycle, GetRouting, SetInterrupt, ListWindow}
-use Rattle.reference.specs.Answers.{zeros, one}
+use Rattle.call.specs.declared.answer.Answer.{Answer}
+use Rattle.call.specs.declared.call.Call.{Call}
+use Rattle.call.specs.declared.call.Access.{Access}
+use Rattle.call.specs.declared.call.Access.the-variants.{Read, FastRead, Write}
+use Rattle.call.specs.declared.call.Call.the-variants.{Load, Reset, WriteImage, Config, Data, GetResource, HookInterrupt, UnhookInterrupt, SetCardUsed, Ask}
+use Rattle.call.specs.declared.call.Query.{Query}
+use Rattle.call.specs.declared.call.Query.the-variants.{FindPciDevice, FindPciClasscode, BusToCpu, CpuToBus, ListChain, GetCardUsed, SpecialCycle, GetRouting, SetInterrupt, ListWindow}
+use Rattle.call.specs.Answers.{zeros, one}
+use Rattle.call.specs.Calls.{writes}
 use Rattle.reference.specs.State.{Next, step}
 use Rattle.reference.specs.Reference.{Reference, exponentOf, imageRecords, placeFor, referenceStart}
 use Rattle.reference.specs.Run.{Asked, Heard, stepOn, answers, after, referenceAnswers, referenceAfter, partsOf, start}
@@ -31,61 +37,58 @@ use Rattle.reference.specs.Run.{Asked, Heard, stepOn, answers, after, re
 abbrev pub dataRefusals : List ℤ
 dataRefusals = badHandle .0 ∷ bufferTooSmall .0 ∷ generalError .0 ∷ funcNotSupported .0 ∷ []
 
--- The numbers that a call can be refused with; a fast read has none, and 0 stands there.
+-- A fast read has no number, and 0 stands there.
+abbrev pub accessRefusals : Access → List ℤ → List ℤ
+accessRefusals Read l = l
+accessRefusals FastRead l = pos 0 ∷ []
+accessRefusals (Write value) l = l
+
+abbrev pub queryRefusals : Query → List ℤ
+queryRefusals (FindPciDevice id index) = deviceNotFound .0 ∷ []
+queryRefusals (FindPciClasscode class index) = deviceNotFound .0 ∷ []
+queryRefusals (BusToCpu handle address) = badHandle .0 ∷ []
+queryRefusals (CpuToBus handle address) = badHandle .0 ∷ []
+queryRefusals (ListChain line place) = generalError .0 ∷ deviceNotFound .0 ∷ []
+queryRefusals (GetCardUsed handle) = badHandle .0 ∷ []
+queryRefusals (SpecialCycle bus message) = funcNotSupported .0 ∷ []
+queryRefusals (GetRouting handle) = funcNotSupported .0 ∷ []
+queryRefusals (SetInterrupt handle mode) = funcNotSupported .0 ∷ []
+queryRefusals (ListWindow n) = deviceNotFound .0 ∷ []
+
+-- The numbers that a call can be refused with.
 abbrev pub refusals : Call → List ℤ
 refusals Load = pos 1 ∷ pos 2 ∷ pos 3 ∷ pos 4 ∷ pos 5 ∷ pos 6 ∷ pos 7 ∷ pos 8 ∷ []
 refusals Reset = bufferTooSmall .0 ∷ []
 refusals WriteImage = pos 1 ∷ pos 3 ∷ []
-refusals (FindPciDevice id index) = deviceNotFound .0 ∷ []
-refusals (FindPciClasscode class index) = deviceNotFound .0 ∷ []
-refusals (ReadConfig width handle register) = badHandle .0 ∷ badRegisterNumber .0 ∷ []
-refusals (FastReadConfig width handle register) = pos 0 ∷ []
-refusals (WriteConfig width handle register value) = badHandle .0 ∷ badRegisterNumber .0 ∷ []
-refusals (ReadData space width handle address) = dataRefusals
-refusals (FastReadData space width handle address) = pos 0 ∷ []
-refusals (WriteData space width handle address value) = dataRefusals
-refusals (BusToCpu handle address) = badHandle .0 ∷ []
-refusals (CpuToBus handle address) = badHandle .0 ∷ []
+refusals (Config width handle register access) = accessRefusals access (badHandle .0 ∷ badRegisterNumber .0 ∷ [])
+refusals (Data space width handle address access) = accessRefusals access dataRefusals
 refusals (GetResource handle) = badHandle .0 ∷ generalError .0 ∷ bufferTooSmall .0 ∷ []
 refusals (HookInterrupt handle handler parameter) = badHandle .0 ∷ generalError .0 ∷ setFailed .0 ∷ []
 refusals (UnhookInterrupt handle) = badHandle .0 ∷ generalError .0 ∷ []
-refusals (ListChain line place) = generalError .0 ∷ deviceNotFound .0 ∷ []
-refusals (GetCardUsed handle) = badHandle .0 ∷ []
 refusals (SetCardUsed handle status callBack) = badHandle .0 ∷ generalError .0 ∷ []
-refusals (SpecialCycle bus message) = funcNotSupported .0 ∷ []
-refusals (GetRouting handle) = funcNotSupported .0 ∷ []
-refusals (SetInterrupt handle mode) = funcNotSupported .0 ∷ []
-refusals (ListWindow n) = deviceNotFound .0 ∷ []
+refusals (Ask query) = queryRefusals query
 
 abbrev pub Among : ℤ → List ℤ → Type 0
 Among z [] = ⊥
 Among z (x ∷ l) = (z ≡ x) ⊎ Among z l
 
 -- The filler: zeros, but for the place that a load returns with 6, and all ones of its width for a fast read.
+abbrev pub accessFiller : Width → Access → List ℕ
+accessFiller width Read = zeros
+accessFiller width FastRead = one (256 ^ bytes width - 1)
+accessFiller width (Write value) = zeros
+
 abbrev pub Filler : Call → Answer → Type 0
 Filler Load a = (a .values ≡ zeros) ⊎ ((a .number ≡ pos 6) × (a .values ≡ getD (a .values) 0 0 ∷ replicate 5 0))
 Filler Reset a = a .values ≡ zeros
 Filler WriteImage a = a .values ≡ zeros
-Filler (FindPciDevice id index) a = a .values ≡ zeros
-Filler (FindPciClasscode class index) a = a .values ≡ zeros
-Filler (ReadConfig width handle register) a = a .values ≡ zeros
-Filler (FastReadConfig width handle register) a = a .values ≡ one (256 ^ bytes width - 1)
-Filler (WriteConfig width handle register value) a = a .values ≡ zeros
-Filler (ReadData space width handle address) a = a .values ≡ zeros
-Filler (FastReadData space width handle address) a = a .values ≡ one (256 ^ bytes width - 1)
-Filler (WriteData space width handle address value) a = a .values ≡ zeros
-Filler (BusToCpu handle address) a = a .values ≡ zeros
-Filler (CpuToBus handle address) a = a .values ≡ zeros
+Filler (Config width handle register access) a = a .values ≡ accessFiller width access
+Filler (Data space width handle address access) a = a .values ≡ accessFiller width access
 Filler (GetResource handle) a = a .values ≡ zeros
 Filler (HookInterrupt handle handler parameter) a = a .values ≡ zeros
 Filler (UnhookInterrupt handle) a = a .values ≡ zeros
-Filler (ListChain line place) a = a .values ≡ zeros
-Filler (GetCardUsed handle) a = a .values ≡ zeros
 Filler (SetCardUsed handle status callBack) a = a .values ≡ zeros
-Filler (SpecialCycle bus message) a = a .values ≡ zeros
-Filler (GetRouting handle) a = a .values ≡ zeros
-Filler (SetInterrupt handle mode) a = a .values ≡ zeros
-Filler (ListWindow n) a = a .values ≡ zeros
+Filler (Ask query) a = a .values ≡ zeros
 
 -- A refused call gives a stated number and the filler, and leaves every lent part and its own buffer as they were.
 pub record Untouched (p : Parts) (c : Call) (lent : List ℕ) (n : Next) : Type 0 where
@@ -137,34 +140,29 @@ abbrev pub accessed : ℕ → Place → ℕ → Bool
 accessed w (At at order) j = leb at j && ltb j (at + w)
 accessed w (Refused s) j = false
 
+abbrev pub nothing : Touch
+nothing = touch false none false false none none none
+
+-- what only a write touches
+abbrev pub ifWrites : Access → Touch → Touch
+ifWrites access t = cond (writes access) t nothing
+
 -- document 01's list, "Runs and the book"
 unfoldable pub mayTouch : Reference → Call → List ℕ → Touch
 mayTouch b Load own = touch true every true true every (λ i. ltb i (total (exponentOf (imageRecords own)))) none
 mayTouch b Reset own = touch false every true true every (λ i. ltb i (total (exponentOf (b .records)))) none
 mayTouch b WriteImage own = touch false none false false none none (λ i. ltb i (imageSize (length (b .records))))
-mayTouch b (FindPciDevice id index) own = touch false none false false none none none
-mayTouch b (FindPciClasscode class index) own = touch false none false false none none none
-mayTouch b (ReadConfig width handle register) own = touch false none false false none none none
-mayTouch b (FastReadConfig width handle register) own = touch false none false false none none none
-mayTouch b (WriteConfig width handle register value) own =
-    touch false (addressed (bytes width) handle register) (movesWindows (bytes width) register) false none none none
-mayTouch b (ReadData space width handle address) own = touch false none false false none none none
-mayTouch b (FastReadData space width handle address) own = touch false none false false none none none
-mayTouch b (WriteData space width handle address value) own =
-    touch false none false false none (accessed (bytes width) (placeFor b (bytes width) (spaceNumber space) handle (address .0))) none
-mayTouch b (BusToCpu handle address) own = touch false none false false none none none
-mayTouch b (CpuToBus handle address) own = touch false none false false none none none
+mayTouch b (Config width handle register access) own =
+    ifWrites access (touch false (addressed (bytes width) handle register) (movesWindows (bytes width) register) false none none none)
+mayTouch b (Data space width handle address access) own =
+    let place = placeFor b (bytes width) (spaceNumber space) handle (address .0) in
+    ifWrites access (touch false none false false none (accessed (bytes width) place) none)
 mayTouch b (GetResource handle) own =
     touch false none false false none none (λ i. ltb i (size * length (windowBases (exponentOf (b .records) (handle - 1)))))
 mayTouch b (HookInterrupt handle handler parameter) own = touch false none false true none none none
 mayTouch b (UnhookInterrupt handle) own = touch false none false true none none none
-mayTouch b (ListChain line place) own = touch false none false false none none none
-mayTouch b (GetCardUsed handle) own = touch false none false false none none none
 mayTouch b (SetCardUsed handle status callBack) own = touch false none false false (λ j. eqb (j / markSize + 1) handle) none none
-mayTouch b (SpecialCycle bus message) own = touch false none false false none none none
-mayTouch b (GetRouting handle) own = touch false none false false none none none
-mayTouch b (SetInterrupt handle mode) own = touch false none false false none none none
-mayTouch b (ListWindow n) own = touch false none false false none none none
+mayTouch b (Ask query) own = nothing
 
 -- two lists have the same length, and the same wherever a touch is not allowed
 pub record Alike (t : ℕ → Bool) (l m : List ℕ) : Type 0 where
@@ -190,31 +188,44 @@ Frame =
     → Framed (mayTouch (referenceAfter (referenceStart cells) cs) (c .call) (c .own)) (after (start cells) cs) (c .own)
     (stepOn (after (start cells) cs) c)
 
--- 4. NONINTERFERENCE. The calls that are struck out: the data calls through a handle h.
+-- 4. NONINTERFERENCE. The handle that a call goes through, and whether for data.
+pub data Through : Type 0 where
+  nobody : Through
+  by : ℕ → Through
+  dataBy : ℕ → Through
+
+abbrev pub queryThrough : Query → Through
+queryThrough (FindPciDevice id index) = nobody
+queryThrough (FindPciClasscode class index) = nobody
+queryThrough (BusToCpu handle address) = by handle
+queryThrough (CpuToBus handle address) = by handle
+queryThrough (ListChain line place) = nobody
+queryThrough (GetCardUsed handle) = by handle
+queryThrough (SpecialCycle bus message) = nobody
+queryThrough (GetRouting handle) = by handle
+queryThrough (SetInterrupt handle mode) = by handle
+queryThrough (ListWindow n) = nobody
+
+abbrev pub through : Call → Through
+through Load = nobody
+through Reset = nobody
+through WriteImage = nobody
+through (Config width handle register access) = by handle
+through (Data space width handle address access) = dataBy handle
+through (GetResource handle) = by handle
+through (HookInterrupt handle handler parameter) = by handle
+through (UnhookInterrupt handle) = by handle
+through (SetCardUsed handle status callBack) = by handle
+through (Ask query) = queryThrough query
+
+-- The calls that are struck out: the data calls through a handle h.
+abbrev pub isData : ℕ → Through → Bool
+isData h nobody = false
+isData h (by handle) = false
+isData h (dataBy handle) = eqb handle h
+
 abbrev pub struckOut : ℕ → Call → Bool
-struckOut h Load = false
-struckOut h Reset = false
-struckOut h WriteImage = false
-struckOut h (FindPciDevice id index) = false
-struckOut h (FindPciClasscode class index) = false
-struckOut h (ReadConfig width handle register) = false
-struckOut h (FastReadConfig width handle register) = false
-struckOut h (WriteConfig width handle register value) = false
-struckOut h (ReadData space width handle address) = eqb handle h
-struckOut h (FastReadData space width handle address) = eqb handle h
-struckOut h (WriteData space width handle address value) = eqb handle h
-struckOut h (BusToCpu handle address) = false
-struckOut h (CpuToBus handle address) = false
-struckOut h (GetResource handle) = false
-struckOut h (HookInterrupt handle handler parameter) = false
-struckOut h (UnhookInterrupt handle) = false
-struckOut h (ListChain line place) = false
-struckOut h (GetCardUsed handle) = false
-struckOut h (SetCardUsed handle status callBack) = false
-struckOut h (SpecialCycle bus message) = false
-struckOut h (GetRouting handle) = false
-struckOut h (SetInterrupt handle mode) = false
-struckOut h (ListWindow n) = false
+struckOut h c = isData h (through c)
 
 -- what is left of a run, and what is heard of that
 unfoldable pub left : ℕ → List Asked → List Asked

@@ -1,5 +1,4 @@
 -- The reference machine, the program's step, runs of both, and the claims about runs.
-pub mod Answers
 pub mod State
 pub mod Reference
 pub mod Run

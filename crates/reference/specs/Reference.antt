@@ -4,7 +4,7 @@ use mathlib.Core.Bool.{Bool, cond, not, _&&_}
 use mathlib.Core.List.{List, [], _∷_, _++_}
 use lib.Dec.{eqb, leb, ltb}
 use lib.IntN.{pos}
-use lib.ListN.{length, getD, take, drop}
+use lib.ListN.{length, getD, take, drop, replicate}
 use Rattle.numbers.specs.Numbers.{byteAt, bytes, big}
 use Rattle.board.specs.Layout.{bases, recordSize, masksAt, entriesAt, entrySize, offsetAt, dmaOffsetAt, baseRegister}
 use Rattle.board.specs.Statuses.{successful, funcNotSupported, bufferTooSmall}
@@ -37,10 +37,13 @@ use Rattle.image_format.specs.Image.{imageSize, countOf, recordsOf, sum, traile
 use Rattle.refusals.specs.Refusals.{Facts, imageMax, refused, firstRefusal}
 use Rattle.image.specs.Check.{facts}
 use Rattle.refusals.specs.declared.verdict.Verdict.{Verdict}
-use Rattle.reference.specs.declared.Answer.{Answer}
-use Rattle.reference.specs.declared.Call.{Call}
-use Rattle.reference.specs.declared.Call.the-variants.{Load, Reset, WriteImage, FindPciDevice, FindPciClasscode, ReadConfig, FastReadConfig, WriteConfig, ReadData, FastReadData, WriteData, BusToCpu, CpuToBus, GetResource, HookInterrupt, UnhookInterrupt, ListChain, GetCardUsed, SetCardUsed, SpecialCycle, GetRouting, SetInterrupt, ListWindow}
-use Rattle.reference.specs.Answers.{answer, zeros, ofStatus, ofVerdict, ofSearch, ofRead, ofFastRead, ofToCpu, ofToBus, ofChain, ofUsed}
+use Rattle.call.specs.declared.answer.Answer.{Answer}
+use Rattle.call.specs.declared.call.Call.{Call}
+use Rattle.call.specs.declared.call.Access.the-variants.{Read, FastRead, Write}
+use Rattle.call.specs.declared.call.Call.the-variants.{Load, Reset, WriteImage, Config, Data, GetResource, HookInterrupt, UnhookInterrupt, SetCardUsed, Ask}
+use Rattle.call.specs.declared.call.Query.{Query}
+use Rattle.call.specs.declared.call.Query.the-variants.{FindPciDevice, FindPciClasscode, BusToCpu, CpuToBus, ListChain, GetCardUsed, SpecialCycle, GetRouting, SetInterrupt, ListWindow}
+use Rattle.call.specs.Answers.{answer, zeros, ofStatus, ofVerdict, ofSearch, ofRead, ofFastRead, ofToCpu, ofToBus, ofChain, ofUsed}
 
 -- the loaded records one by one; registers by function and number; the whole cell buffer; each line's hooks in order; used marks by function
 pub record Reference : Type 0 where
@@ -49,6 +52,14 @@ pub record Reference : Type 0 where
   pub cells : List ℕ
   pub chains : ℕ → List Hook
   pub used : ℕ → Mark
+
+abbrev pub reference : List (List ℕ) → (ℕ → ℕ → ℕ) → List ℕ → (ℕ → List Hook) → (ℕ → Mark) → Reference
+reference records registers cells chains used =
+    record { records = records; registers = registers; cells = cells; chains = chains; used = used }
+
+-- a board without hooks and used marks
+abbrev pub unused : List (List ℕ) → (ℕ → ℕ → ℕ) → List ℕ → Reference
+unused records registers cells = reference records registers cells (λ line. []) (λ i. record { status = 0; callBack = 0 })
 
 -- the record of the function at a place; empty where there is no function
 abbrev pub recordOf : List (List ℕ) → ℕ → List ℕ
@@ -68,25 +79,11 @@ joined (r ∷ rs) = r ++ joined rs
 
 -- registers copied, the cells that the windows need zeroed, hooks and used marks cleared
 abbrev pub fresh : List (List ℕ) → List ℕ → Reference
-fresh records cells =
-    record {
-      records = records;
-      registers = λ i. byteAt (recordOf records i);
-      cells = zeroed (total (exponentOf records)) cells;
-      chains = λ line. [];
-      used = λ i. record { status = 0; callBack = 0 };
-    }
+fresh records cells = unused records (λ i. byteAt (recordOf records i)) (zeroed (total (exponentOf records)) cells)
 
 -- at the start no function
 abbrev pub referenceStart : List ℕ → Reference
-referenceStart cells =
-    record {
-      records = [];
-      registers = λ i register. 0;
-      cells = cells;
-      chains = λ line. [];
-      used = λ i. record { status = 0; callBack = 0 };
-    }
+referenceStart cells = unused [] (λ i register. 0) cells
 
 -- n records of a list of bytes
 unfoldable pub split : ℕ → List ℕ → List (List ℕ)
@@ -128,7 +125,7 @@ registersAfter b w i register value j at =
     (b .registers j at)
 
 abbrev pub withRegistersOf : (ℕ → ℕ → ℕ) → Reference → Reference
-withRegistersOf r b = record { records = b .records; registers = r; cells = b .cells; chains = b .chains; used = b .used }
+withRegistersOf r b = reference (b .records) r (b .cells) (b .chains) (b .used)
 
 -- the window for a handle, in the list worked out afresh
 abbrev pub findFor : Reference → ℕ → ℕ → ℕ → ℕ → Finding
@@ -152,7 +149,7 @@ abbrev pub placeFor : Reference → ℕ → ℕ → ℕ → ℕ → Place
 placeFor b w space handle address = placeIn b w handle (findFor b w space handle address)
 
 abbrev pub withCellsOf : List ℕ → Reference → Reference
-withCellsOf cells b = record { records = b .records; registers = b .registers; cells = cells; chains = b .chains; used = b .used }
+withCellsOf cells b = reference (b .records) (b .registers) cells (b .chains) (b .used)
 
 -- what the CPU sees of a function's bus addresses is above them by its offset
 abbrev pub offsetOf : List (List ℕ) → ℕ → ℕ
@@ -186,23 +183,11 @@ pinFor b handle = byteAt (recordOf (b .records) (handle - 1)) 0x3D
 -- another chain on a line, another mark of the function at place i
 abbrev pub withChainOf : ℕ → List Hook → Reference → Reference
 withChainOf line chain b =
-    record {
-      records = b .records;
-      registers = b .registers;
-      cells = b .cells;
-      chains = λ l. cond (eqb l line) chain (b .chains l);
-      used = b .used;
-    }
+    reference (b .records) (b .registers) (b .cells) (λ l. cond (eqb l line) chain (b .chains l)) (b .used)
 
 abbrev pub withMarkOf : ℕ → Mark → Reference → Reference
 withMarkOf i m b =
-    record {
-      records = b .records;
-      registers = b .registers;
-      cells = b .cells;
-      chains = b .chains;
-      used = λ j. cond (eqb j i) m (b .used j);
-    }
+    reference (b .records) (b .registers) (b .cells) (b .chains) (λ j. cond (eqb j i) m (b .used j))
 
 -- the answer, the next state, and the call's own buffer
 pub record Told : Type 0 where
@@ -221,6 +206,28 @@ abbrev pub writeDataOf : Reference → ℕ → ℕ → List ℕ → Place → To
 writeDataOf b w value own (At at order) = told (ofStatus successful) (withCellsOf (cellsAfter order w at value (b .cells)) b) own
 writeDataOf b w value own (NoPlace s) = told (ofStatus s) b own
 
+-- the board as a query sees it: of the cells how many there are, and no byte
+abbrev pub blankedOf : Reference → Reference
+blankedOf b = withCellsOf (replicate (length (b .cells)) 0) b
+
+-- the answer of a call that changes nothing
+unfoldable pub referenceQueried : Reference → Query → Answer
+referenceQueried b (FindPciDevice id index) =
+    ofSearch (searchNumber (devices id (length (b .records)) (b .registers)) index)
+referenceQueried b (FindPciClasscode class index) =
+    ofSearch (searchNumber (classes class (length (b .records)) (b .registers)) index)
+referenceQueried b (BusToCpu handle address) =
+    ofToCpu (toCpu (isHandleOf b handle) (offsetOf (b .records) (handle - 1)) address)
+referenceQueried b (CpuToBus handle address) =
+    ofToBus (toBus (isHandleOf b handle) (offsetOf (b .records) (handle - 1)) address)
+referenceQueried b (ListChain line place) =
+    ofChain (chainNumber (b .chains line) line place) (chainValues (b .chains line) line place)
+referenceQueried b (GetCardUsed handle) = ofUsed (usedOf (isHandleOf b handle) (b .used (handle - 1)))
+referenceQueried b (SpecialCycle bus message) = ofStatus funcNotSupported
+referenceQueried b (GetRouting handle) = ofStatus funcNotSupported
+referenceQueried b (SetInterrupt handle mode) = ofStatus funcNotSupported
+referenceQueried b (ListWindow n) = answer (listedNumber (windowsOf b) n) (listedValues (windowsOf b) n)
+
 unfoldable pub referenceStep : Reference → Call → List ℕ → Told
 referenceStep b Load own =
     let v = verdict own (length (b .cells)) in
@@ -233,26 +240,18 @@ referenceStep b WriteImage own =
     cond (ltb (length own) (imageSize n)) (told (answer (pos 1) zeros) b own)
     (cond (eqb n 0) (told (answer (pos 3) zeros) b own)
     (told (answer (pos 0) zeros) b (imageBytes (b .records) ++ drop (imageSize n) own)))
-referenceStep b (FindPciDevice id index) own =
-    told (ofSearch (searchNumber (devices id (length (b .records)) (b .registers)) index)) b own
-referenceStep b (FindPciClasscode class index) own =
-    told (ofSearch (searchNumber (classes class (length (b .records)) (b .registers)) index)) b own
-referenceStep b (ReadConfig width handle register) own =
+referenceStep b (Config width handle register Read) own =
     told (ofRead (readOf (b .registers) (bytes width) register (targetOf b (bytes width) handle register))) b own
-referenceStep b (FastReadConfig width handle register) own =
+referenceStep b (Config width handle register FastRead) own =
     told (ofFastRead (fastReadOf (b .registers) (bytes width) register (targetOf b (bytes width) handle register))) b own
-referenceStep b (WriteConfig width handle register value) own =
+referenceStep b (Config width handle register (Write value)) own =
     writeOf b (bytes width) register value own (targetOf b (bytes width) handle register)
-referenceStep b (ReadData space width handle address) own =
+referenceStep b (Data space width handle address Read) own =
     told (ofRead (readAt (bytes width) (b .cells) (placeFor b (bytes width) (spaceNumber space) handle (address .0)))) b own
-referenceStep b (FastReadData space width handle address) own =
+referenceStep b (Data space width handle address FastRead) own =
     told (ofFastRead (fastReadAt (bytes width) (b .cells) (placeFor b (bytes width) (spaceNumber space) handle (address .0)))) b own
-referenceStep b (WriteData space width handle address value) own =
+referenceStep b (Data space width handle address (Write value)) own =
     writeDataOf b (bytes width) value own (placeFor b (bytes width) (spaceNumber space) handle (address .0))
-referenceStep b (BusToCpu handle address) own =
-    told (ofToCpu (toCpu (isHandleOf b handle) (offsetOf (b .records) (handle - 1)) address)) b own
-referenceStep b (CpuToBus handle address) own =
-    told (ofToBus (toBus (isHandleOf b handle) (offsetOf (b .records) (handle - 1)) address)) b own
 referenceStep b (GetResource handle) own =
     let g = resource (isHandleOf b handle) (sourceFor b handle) own in
     told (ofStatus (g .status)) b (g .out)
@@ -266,13 +265,7 @@ referenceStep b (UnhookInterrupt handle) own =
     let chain = b .chains line in
     unhookChecks (isHandleOf b handle) (isAmong handle chain)
     (told (ofStatus successful) (withChainOf line (without handle chain) b) own) (λ s. told (ofStatus s) b own)
-referenceStep b (ListChain line place) own =
-    told (ofChain (chainNumber (b .chains line) line place) (chainValues (b .chains line) line place)) b own
-referenceStep b (GetCardUsed handle) own = told (ofUsed (usedOf (isHandleOf b handle) (b .used (handle - 1)))) b own
 referenceStep b (SetCardUsed handle status callBack) own =
     setChecks (isHandleOf b handle) status
     (told (ofStatus successful) (withMarkOf (handle - 1) (newMark status callBack) b) own) (λ s. told (ofStatus s) b own)
-referenceStep b (SpecialCycle bus message) own = told (ofStatus funcNotSupported) b own
-referenceStep b (GetRouting handle) own = told (ofStatus funcNotSupported) b own
-referenceStep b (SetInterrupt handle mode) own = told (ofStatus funcNotSupported) b own
-referenceStep b (ListWindow n) own = told (answer (listedNumber (windowsOf b) n) (listedValues (windowsOf b) n)) b own
+referenceStep b (Ask query) own = told (referenceQueried (blankedOf b) query) b own

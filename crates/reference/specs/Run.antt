@@ -10,8 +10,8 @@ use Rattle.hooks.specs.Hooks.{Hook, lastLine, packed}
 use Rattle.card_used.specs.Used.{marksOf}
 use Rattle.cells.specs.Cells.{offsetsOf}
 use Rattle.load.specs.Load.{padded}
-use Rattle.reference.specs.declared.Answer.{Answer}
-use Rattle.reference.specs.declared.Call.{Call}
+use Rattle.call.specs.declared.answer.Answer.{Answer}
+use Rattle.call.specs.declared.call.Call.{Call}
 use Rattle.reference.specs.State.{Next, step}
 use Rattle.reference.specs.Reference.{Reference, Told, exponentOf, joined, windowsOf, referenceStep}
 

@@ -2,10 +2,14 @@
 use Prim.Native.Nat.{ℕ}
 use mathlib.Core.List.{List}
 use lib.IntN.{pos}
+use lib.ListN.{length, replicate}
 use Rattle.board.specs.Parts.{Parts, withRegisters, withCells, withHooks, withUsed}
 use Rattle.board.specs.Handles.{functionCount}
 use Rattle.board.specs.Layout.{registerByte}
 use Rattle.numbers.specs.Numbers.{bytes}
+use Rattle.numbers.specs.declared.number.Width.{Width}
+use Rattle.board.specs.declared.address.BusAddress.{BusAddress}
+use Rattle.find_window.specs.declared.find.Space.{Space}
 use Rattle.window.specs.Kept.{unpacked}
 use Rattle.window_listing.specs.Listing.{listing, numberOf, valuesOf}
 use Rattle.config_read.specs.Read.{readConfig, fastReadConfig}
@@ -23,10 +27,14 @@ use Rattle.unsupported.specs.Unsupported.{specialCycle, getRouting, setInterrup
 use Rattle.reset.specs.Reset.{reset}
 use Rattle.load.specs.Load.{load}
 use Rattle.image_writer.specs.Write.{write}
-use Rattle.reference.specs.declared.Answer.{Answer}
-use Rattle.reference.specs.declared.Call.{Call}
-use Rattle.reference.specs.declared.Call.the-variants.{Load, Reset, WriteImage, FindPciDevice, FindPciClasscode, ReadConfig, FastReadConfig, WriteConfig, ReadData, FastReadData, WriteData, BusToCpu, CpuToBus, GetResource, HookInterrupt, UnhookInterrupt, ListChain, GetCardUsed, SetCardUsed, SpecialCycle, GetRouting, SetInterrupt, ListWindow}
-use Rattle.reference.specs.Answers.{answer, zeros, ofStatus, ofVerdict, ofSearch, ofRead, ofFastRead, ofToCpu, ofToBus, ofChain, ofUsed}
+use Rattle.call.specs.declared.answer.Answer.{Answer}
+use Rattle.call.specs.declared.call.Call.{Call}
+use Rattle.call.specs.declared.call.Access.{Access}
+use Rattle.call.specs.declared.call.Access.the-variants.{Read, FastRead, Write}
+use Rattle.call.specs.declared.call.Call.the-variants.{Load, Reset, WriteImage, Config, Data, GetResource, HookInterrupt, UnhookInterrupt, SetCardUsed, Ask}
+use Rattle.call.specs.declared.call.Query.{Query}
+use Rattle.call.specs.declared.call.Query.the-variants.{FindPciDevice, FindPciClasscode, BusToCpu, CpuToBus, ListChain, GetCardUsed, SpecialCycle, GetRouting, SetInterrupt, ListWindow}
+use Rattle.call.specs.Answers.{answer, zeros, ofStatus, ofVerdict, ofSearch, ofRead, ofFastRead, ofToCpu, ofToBus, ofChain, ofUsed}
 
 -- the answer, the lent parts, and the call's own buffer
 pub record Next : Type 0 where
@@ -37,34 +45,74 @@ pub record Next : Type 0 where
 abbrev pub next : Answer → Parts → List ℕ → Next
 next a p own = record { answer = a; parts = p; own = own }
 
+-- the lent parts as a query sees them: of the cells how many there are, and no byte
+abbrev pub blanked : Parts → Parts
+blanked p = withCells (replicate (length (p .cells)) 0) p
+
+-- the answer of a call that changes nothing
+unfoldable pub queried : Parts → Query → Answer
+queried p (FindPciDevice id index) =
+    let hs = devices id (functionCount (p .header)) (registerByte (p .registers)) in
+    ofSearch (foundNumber (searched hs index))
+queried p (FindPciClasscode class index) =
+    let hs = classes class (functionCount (p .header)) (registerByte (p .registers)) in
+    ofSearch (foundNumber (searched hs index))
+queried p (BusToCpu handle address) = ofToCpu (busToCpu (p .header) (p .records) handle address)
+queried p (CpuToBus handle address) = ofToBus (cpuToBus (p .header) (p .records) handle address)
+queried p (ListChain line place) =
+    let l = chainListing (chainOf (p .records) (p .hooks) line) line place in
+    ofChain (chainNumberOf l) (chainValuesOf l)
+queried p (GetCardUsed handle) = ofUsed (getCardUsed (p .header) (p .used) handle)
+queried p (SpecialCycle bus message) = ofStatus (specialCycle bus message)
+queried p (GetRouting handle) = ofStatus (getRouting handle)
+queried p (SetInterrupt handle mode) = ofStatus (setInterrupt handle mode)
+queried p (ListWindow n) = let l = listing (unpacked (p .windows)) n in answer (numberOf l) (valuesOf l)
+
+-- a configuration access leaves registers and the kept list
+pub record Configured : Type 0 where
+  pub answer : Answer
+  pub registers : List ℕ
+  pub windows : List ℕ
+
+abbrev pub configured : Answer → List ℕ → List ℕ → Configured
+configured a registers windows = record { answer = a; registers = registers; windows = windows }
+
+abbrev pub configAccess : List ℕ → List ℕ → List ℕ → List ℕ → Width → ℕ → ℕ → Access → Configured
+configAccess header records registers windows width handle register Read =
+    configured (ofRead (readConfig (bytes width) header registers handle register)) registers windows
+configAccess header records registers windows width handle register FastRead =
+    configured (ofFastRead (fastReadConfig (bytes width) header registers handle register)) registers windows
+configAccess header records registers windows width handle register (Write value) =
+    let w = writeConfig (bytes width) header records registers windows handle register value in
+    configured (ofStatus (w .status)) (w .registers) (w .windows)
+
+-- a data access leaves cells
+pub record Stored : Type 0 where
+  pub answer : Answer
+  pub cells : List ℕ
+
+abbrev pub stored : Answer → List ℕ → Stored
+stored a cells = record { answer = a; cells = cells }
+
+abbrev pub dataAccess : List ℕ → List ℕ → List ℕ → List ℕ → List ℕ → Space → Width → ℕ → BusAddress → Access → Stored
+dataAccess header records windows offsets cells space width handle address Read =
+    stored (ofRead (readData (bytes width) header records windows offsets cells (spaceNumber space) handle (address .0))) cells
+dataAccess header records windows offsets cells space width handle address FastRead =
+    stored (ofFastRead (fastReadData (bytes width) header records windows offsets cells (spaceNumber space) handle (address .0))) cells
+dataAccess header records windows offsets cells space width handle address (Write value) =
+    let w = writeData (bytes width) header records windows offsets cells (spaceNumber space) handle (address .0) value in
+    stored (ofStatus (w .status)) (w .cells)
+
 unfoldable pub step : Parts → Call → List ℕ → Next
 step p Load own = let w = load p own in next (ofVerdict (w .verdict)) (w .parts) own
 step p Reset own = let w = reset p in next (ofStatus (w .status)) (w .parts) own
 step p WriteImage own = let w = write (p .header) (p .records) own in next (answer (pos (w .number)) zeros) p (w .out)
-step p (FindPciDevice id index) own =
-    let hs = devices id (functionCount (p .header)) (registerByte (p .registers)) in
-    next (ofSearch (foundNumber (searched hs index))) p own
-step p (FindPciClasscode class index) own =
-    let hs = classes class (functionCount (p .header)) (registerByte (p .registers)) in
-    next (ofSearch (foundNumber (searched hs index))) p own
-step p (ReadConfig width handle register) own =
-    next (ofRead (readConfig (bytes width) (p .header) (p .registers) handle register)) p own
-step p (FastReadConfig width handle register) own =
-    next (ofFastRead (fastReadConfig (bytes width) (p .header) (p .registers) handle register)) p own
-step p (WriteConfig width handle register value) own =
-    let w = writeConfig (bytes width) (p .header) (p .records) (p .registers) (p .windows) handle register value in
-    next (ofStatus (w .status)) (withRegisters (w .registers) (w .windows) p) own
-step p (ReadData space width handle address) own =
-    next (ofRead (readData (bytes width) (p .header) (p .records) (p .windows) (p .cellOffsets) (p .cells) (spaceNumber space) handle (address .0))) p own
-step p (FastReadData space width handle address) own =
-    next
-    (ofFastRead (fastReadData (bytes width) (p .header) (p .records) (p .windows) (p .cellOffsets) (p .cells) (spaceNumber space) handle (address .0)))
-    p own
-step p (WriteData space width handle address value) own =
-    let w = writeData (bytes width) (p .header) (p .records) (p .windows) (p .cellOffsets) (p .cells) (spaceNumber space) handle (address .0) value in
-    next (ofStatus (w .status)) (withCells (w .cells) p) own
-step p (BusToCpu handle address) own = next (ofToCpu (busToCpu (p .header) (p .records) handle address)) p own
-step p (CpuToBus handle address) own = next (ofToBus (cpuToBus (p .header) (p .records) handle address)) p own
+step p (Config width handle register access) own =
+    let w = configAccess (p .header) (p .records) (p .registers) (p .windows) width handle register access in
+    next (w .answer) (withRegisters (w .registers) (w .windows) p) own
+step p (Data space width handle address access) own =
+    let w = dataAccess (p .header) (p .records) (p .windows) (p .cellOffsets) (p .cells) space width handle address access in
+    next (w .answer) (withCells (w .cells) p) own
 step p (GetResource handle) own =
     let g = getResource (p .header) (p .records) (p .registers) (p .windows) handle own in
     next (ofStatus (g .status)) p (g .out)
@@ -74,14 +122,7 @@ step p (HookInterrupt handle handler parameter) own =
 step p (UnhookInterrupt handle) own =
     let w = unhookInterrupt (p .header) (p .hooks) handle in
     next (ofStatus (w .status)) (withHooks (w .hooks) p) own
-step p (ListChain line place) own =
-    let l = chainListing (chainOf (p .records) (p .hooks) line) line place in
-    next (ofChain (chainNumberOf l) (chainValuesOf l)) p own
-step p (GetCardUsed handle) own = next (ofUsed (getCardUsed (p .header) (p .used) handle)) p own
 step p (SetCardUsed handle status callBack) own =
     let w = setCardUsed (p .header) (p .used) handle status callBack in
     next (ofStatus (w .status)) (withUsed (w .used) p) own
-step p (SpecialCycle bus message) own = next (ofStatus (specialCycle bus message)) p own
-step p (GetRouting handle) own = next (ofStatus (getRouting handle)) p own
-step p (SetInterrupt handle mode) own = next (ofStatus (setInterrupt handle mode)) p own
-step p (ListWindow n) own = let l = listing (unpacked (p .windows)) n in next (answer (numberOf l) (valuesOf l)) p own
+step p (Ask query) own = next (queried (blanked p) query) p own

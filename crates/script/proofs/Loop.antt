@@ -7,7 +7,7 @@ use mathlib.Core.Path.{_≡_, refl, sym, ap, _∙_}
 use lib.ListN.{length, take, drop, length-append, length-drop, drop-of-length-le, take-append-drop}
 use lib.Seq.{length-take-le, take-all, take-at, drop-at}
 use Rattle.board.specs.Parts.{Parts}
-use Rattle.reference.specs.declared.Call.{Call}
+use Rattle.call.specs.declared.call.Call.{Call}
 use Rattle.encoding.specs.declared.decode.Decoded.{Decoded}
 use Rattle.encoding.specs.declared.decode.Decoded.the-variants.{Known, Malformed}
 use Rattle.encoding.specs.Format.{headerSize, answerBytes}

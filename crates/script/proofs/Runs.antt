@@ -6,7 +6,7 @@ use mathlib.Core.Path.{_≡_, refl, sym, ap, _∙_}
 use lib.ListN.{length, drop, length-drop}
 use lib.Seq.{length-take-le, drop-drop}
 use Rattle.board.specs.Parts.{Parts}
-use Rattle.reference.specs.declared.Call.{Call}
+use Rattle.call.specs.declared.call.Call.{Call}
 use Rattle.reference.specs.Run.{asked, answers, after, start}
 use Rattle.reference.specs.State.{Next, step}
 use Rattle.reference.proofs.Refinement.{refinement}

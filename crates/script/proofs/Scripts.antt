@@ -6,7 +6,7 @@ use mathlib.Core.Path.{_≡_, refl, sym, ap, _∙_}
 use lib.ListN.{length, take, drop, length-append, length-drop, take-append-drop}
 use lib.Seq.{take-at, drop-at, drop-drop, drop-length}
 use Rattle.numbers.specs.Tables.{tableFrom}
-use Rattle.reference.specs.declared.Call.{Call}
+use Rattle.call.specs.declared.call.Call.{Call}
 use Rattle.reference.specs.Reference.{referenceStart}
 use Rattle.reference.specs.Run.{Asked, referenceAnswers, referenceAfter, partsOf}
 use Rattle.encoding.specs.declared.decode.Decoded.{Decoded}

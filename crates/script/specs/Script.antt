@@ -5,7 +5,7 @@ use mathlib.Core.List.{List, [], _∷_, _++_}
 use lib.Dec.{ltb}
 use lib.ListN.{length, take, drop}
 use Rattle.board.specs.Parts.{Parts}
-use Rattle.reference.specs.declared.Call.{Call}
+use Rattle.call.specs.declared.call.Call.{Call}
 use Rattle.reference.specs.Reference.{referenceStart}
 use Rattle.reference.specs.State.{step}
 use Rattle.reference.specs.Run.{Asked, Heard, asked, referenceAnswers, referenceAfter, partsOf}

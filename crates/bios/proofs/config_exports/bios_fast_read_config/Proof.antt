@@ -1,6 +1,6 @@
 -- `bios_fast_read_config`: the fast read of a known width, or all ones.
 use mathlib.Core.Path.{sym, _∙_}
-use Rattle.reference.proofs.Signed.{bool-number}
+use Rattle.call.proofs.Signed.{bool-number}
 use borrow.Author.Needs.{needs}
 use Rattle.bios.proofs.config_exports.bios_fast_read_config.Statement.{statement}
 use Rattle.bios.proofs.config_exports.bios_fast_read_config.Tie as tie

@@ -1,5 +1,5 @@
 -- `bios_fast_read_data`: the fast read that was asked for.
-use Rattle.reference.proofs.Signed.{bool-number}
+use Rattle.call.proofs.Signed.{bool-number}
 use borrow.Author.Needs.{needs}
 use Rattle.bios.proofs.data_exports.bios_fast_read_data.Statement.{statement}
 use Rattle.bios.proofs.data_exports.bios_fast_read_data.Tie as tie

@@ -3,7 +3,7 @@ use mathlib.Core.Path.{ap, _∙_}
 use native.Mathlib.Omega.{arith}
 use lib.ListN.{length-set}
 use borrow.Author.Needs.{needs}
-use Rattle.reference.proofs.Signed.{back}
+use Rattle.call.proofs.Signed.{back}
 use Rattle.encoding.specs.Format.{bits}
 use Rattle.encoding.proofs.Bytes.{answer-put}
 use Rattle.encoding.proofs.answer.answer_bytes.Statement.{statement}

@@ -1,2 +1,0 @@
--- What private steps need.
-pub mod Steps

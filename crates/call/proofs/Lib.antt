@@ -1,0 +1,3 @@
+-- The laws that proofs here cite.
+pub mod Signed
+pub mod Found

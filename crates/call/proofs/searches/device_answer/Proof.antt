@@ -1,0 +1,18 @@
+-- `device_answer`: the handle that is found is small.
+use denote.Ref.{now}
+use Rattle.call.proofs.Found.{found-small}
+use borrow.Author.Needs.{needs}
+use Rattle.call.proofs.searches.device_answer.Statement.{statement}
+use Rattle.call.proofs.searches.device_answer.Tie as tie
+
+find-pci-device-requires : tie.Need-find-pci-device-requires
+find-pci-device-requires c κs = search needs
+
+of-search-requires : tie.Need-of-search-requires
+of-search-requires c κs = found-small (now (c .before .args .header)) _ _ _ (c .find-pci-device .ensures)
+
+returns : tie.Need-returns
+returns c = rw (c .of-search .ensures, c .before .find-pci-device .ensures .number)
+
+pub device-answer-spec : {M : Type 1} → statement M
+device-answer-spec = tie.close (tie.spec find-pci-device-requires of-search-requires returns)

@@ -1,0 +1,21 @@
+-- `config`: each arm by the contract of its call.
+use borrow.Author.Needs.{needs}
+use Rattle.dispatch.proofs.through.config.Statement.{statement}
+use Rattle.dispatch.proofs.through.config.Tie as tie
+
+pub config-spec : {M : Type 1} → statement M
+config-spec =
+    tie.close
+    (tie.spec
+    (λ c. search needs)
+    (λ c κs. search needs)
+    (λ c κs. search needs)
+    (λ c. search needs)
+    (λ c κs. search needs)
+    (λ c κs. search needs)
+    (λ c. search needs)
+    (λ c κs. search needs)
+    (λ c κs. search needs)
+    (λ c. rw (c .before .before .before .enum-told .given .1, c .of-read .ensures, c .before .read-config .ensures))
+    (λ c. rw (c .before .before .before .enum-told2 .given .1, c .of-fast-read .ensures, c .before .fast-read-config .ensures))
+    (λ c. rw (c .before .before .before .before .before .access .given .1, c .of-status .ensures, ← c .before .write-config .ensures)))

@@ -1,0 +1,72 @@
+-- Claim 1 for queries: a refused one gives a stated number and zeros. That it touches nothing is its type's.
+use Prim.Native.Nat.{ℕ, zero, suc}
+use mathlib.Core.Bool.{true}
+use mathlib.Core.Logic.{inl, inr}
+use mathlib.Core.Path.{_≡_, refl}
+use mathlib.Core.List.{List, [], _∷_}
+use lib.Dec.{ltb}
+use Rattle.board.specs.Parts.{Parts}
+use Rattle.board.specs.Handles.{isHandle}
+use Rattle.board.specs.Statuses.{deviceNotFound}
+use Rattle.window.specs.Window.{Window}
+use Rattle.window.specs.Kept.{unpacked}
+use Rattle.window_listing.specs.Listing.{listing, numberOf, valuesOf}
+use Rattle.search.specs.Search.{searched, foundNumber}
+use Rattle.conversions.specs.declared.convert.ToBus.{ToBus}
+use Rattle.conversions.specs.declared.convert.ToCpu.{ToCpu}
+use Rattle.hooks.specs.Hooks.{Hook, lastLine, chainOf}
+use Rattle.chain_listing.specs.Listing.{listed, chainNumberOf, chainValuesOf}
+use Rattle.chain_listing.specs.declared.listing.ChainListing.{ChainListing}
+use Rattle.card_used.specs.declared.used.CardUsed.{CardUsed}
+use Rattle.call.specs.declared.answer.Answer.{Answer}
+use Rattle.call.specs.declared.call.Query.{Query}
+use Rattle.call.specs.declared.call.Query.the-variants.{FindPciDevice, FindPciClasscode, BusToCpu, CpuToBus, ListChain, GetCardUsed, SpecialCycle, GetRouting, SetInterrupt, ListWindow}
+use Rattle.call.specs.Answers.{zeros, answer, ofSearch, ofToCpu, ofToBus, ofChain, ofUsed}
+use Rattle.reference.specs.State.{queried}
+use Rattle.reference.specs.Claims.{Among, queryRefusals}
+use Rattle.reference.proofs.Tests.{ifTest}
+use Rattle.reference.proofs.Refused.{not-refused}
+
+-- what the claim says of a query's answer
+abbrev pub Stated : Query → Answer → Type 0
+Stated q a = a .refused ≡ true → Among (a .number) (queryRefusals q) × (a .values ≡ zeros)
+
+-- a search refuses exactly where there is no such match
+search-stated : (q : Query) → Among (deviceNotFound .0) (queryRefusals q) → (hs : List ℕ) (m : ℕ) → Stated q (ofSearch (foundNumber (searched hs m)))
+unfolding searched
+search-stated q n [] m e = (n, refl)
+search-stated q n (h ∷ hs) zero e = not-refused e
+search-stated q n (h ∷ hs) (suc m) e = search-stated q n hs m e
+
+-- a listing of windows refuses exactly past the end
+list-stated : (n : ℕ) (l : List Window) (m : ℕ) → Stated (ListWindow n) (answer (numberOf (listing l m)) (valuesOf (listing l m)))
+unfolding listing
+list-stated n [] m e = (inl refl, refl)
+list-stated n (w ∷ l) zero e = not-refused e
+list-stated n (w ∷ l) (suc m) e = list-stated n l m e
+
+-- and so does a listing of a chain, of a line that there is
+chain-stated : (line place : ℕ) (chain : List Hook) (n : ℕ)
+    → Stated (ListChain line place) (ofChain (chainNumberOf (listed chain n)) (chainValuesOf (listed chain n)))
+unfolding listed
+chain-stated line place [] n e = (inr (inl refl), refl)
+chain-stated line place (h ∷ hs) zero e = not-refused e
+chain-stated line place (h ∷ hs) (suc n) e = chain-stated line place hs n e
+
+pub query-stated : (p : Parts) (q : Query) → Stated q (queried p q)
+unfolding queried
+query-stated p (FindPciDevice id index) = search-stated (FindPciDevice id index) (inl refl) _ index
+query-stated p (FindPciClasscode class index) = search-stated (FindPciClasscode class index) (inl refl) _ index
+query-stated p (BusToCpu handle address) =
+    ifTest (λ (t : ToCpu). Stated (BusToCpu handle address) (ofToCpu t)) (isHandle (p .header) handle) (λ g e. not-refused e) (λ g e. (inl refl, refl))
+query-stated p (CpuToBus handle address) =
+    ifTest (λ (t : ToBus). Stated (CpuToBus handle address) (ofToBus t)) (isHandle (p .header) handle) (λ g e. not-refused e) (λ g e. (inl refl, refl))
+query-stated p (ListChain line place) =
+    ifTest (λ (l : ChainListing). Stated (ListChain line place) (ofChain (chainNumberOf l) (chainValuesOf l))) (ltb lastLine line)
+    (λ t e. (inl refl, refl)) (λ t. chain-stated line place (chainOf (p .records) (p .hooks) line) place)
+query-stated p (GetCardUsed handle) =
+    ifTest (λ (u : CardUsed). Stated (GetCardUsed handle) (ofUsed u)) (isHandle (p .header) handle) (λ g e. not-refused e) (λ g e. (inl refl, refl))
+query-stated p (SpecialCycle bus message) = λ e. (inl refl, refl)
+query-stated p (GetRouting handle) = λ e. (inl refl, refl)
+query-stated p (SetInterrupt handle mode) = λ e. (inl refl, refl)
+query-stated p (ListWindow n) = list-stated n (unpacked (p .windows)) n
