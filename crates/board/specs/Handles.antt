@@ -1,10 +1,14 @@
 -- Handles: document 01, "The modelled board".
 use Prim.Native.Nat.{ℕ, min}
 use mathlib.Core.Bool.{Bool, _&&_}
-use mathlib.Core.List.{List}
+use mathlib.Core.List.{List, [], _∷_}
 use lib.Dec.{leb}
 use lib.ListN.{getD}
 use Rattle.board.specs.Layout.{functionsMax}
+
+-- the header of a board with so many functions: the count, and numbers that have no meaning yet
+abbrev pub headerOf : ℕ → List ℕ
+headerOf count = count ∷ 0 ∷ 0 ∷ 0 ∷ []
 
 -- a count above 16 is read as 16
 abbrev pub functionCount : List ℕ → ℕ

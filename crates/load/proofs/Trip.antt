@@ -12,7 +12,7 @@ use borrow.Author.Tests.{eq-eqb, ne-eqb, le-ltb}
 use Rattle.numbers.specs.Numbers.{byteAt, bigBytes, big}
 use Rattle.board.specs.Layout.{functionsMax, recordSize, exponent}
 use Rattle.board.specs.Parts.{Parts}
-use Rattle.board.specs.Handles.{functionCount}
+use Rattle.board.specs.Handles.{headerOf, functionCount}
 use Rattle.numbers.proofs.Numbers.{big-below, big-bytes, bytes-big}
 use Rattle.numbers.proofs.Tables.{table-length}
 use Rattle.cells.specs.Cells.{total, offsetsOf}
@@ -109,7 +109,7 @@ accepted-again image other room k w =
 made : Parts → Verdict → ℕ → List ℕ → Loaded
 made q v n r =
     cond (eqb (v .number) 0)
-    (loaded v (restarted (n ∷ 0 ∷ 0 ∷ 0 ∷ []) (padded r) (offsetsOf (exponent (padded r))) (q .cells))) (loaded v q)
+    (loaded v (restarted (headerOf n) (padded r) (offsetsOf (exponent (padded r))) (q .cells))) (loaded v q)
 
 load-made : (q : Parts) (image : List ℕ) → load q image ≡ made q (checked image (length (q .cells))) (countOf image) (recordsOf image)
 unfolding load made
@@ -152,7 +152,7 @@ image-alone p q image c e =
     let v : load q image .verdict ≡ accepted = load-verdict q image ∙ rw (← c) (sym (load-verdict p image) ∙ e) in
     load-whole q image v ∙ rw (← c) (sym (load-whole p image e))
 
-installed-header : (image cells : List ℕ) → installed image cells .header ≡ countOf image ∷ 0 ∷ 0 ∷ 0 ∷ []
+installed-header : (image cells : List ℕ) → installed image cells .header ≡ headerOf (countOf image)
 unfolding restarted
 installed-header image cells = refl
 
@@ -162,10 +162,10 @@ installed-records image cells = refl
 
 -- the writer's answer of n loaded records, where the output has just the room
 writes : (n : ℕ) (r out : List ℕ) → 0 < n → n ≤ functionsMax → length r ≡ recordSize * n → length out ≡ imageSize n
-    → write (n ∷ 0 ∷ 0 ∷ 0 ∷ []) (padded r) out ≡ written 0 (r ++ trailer n (sum r))
+    → write (headerOf n) (padded r) out ≡ written 0 (r ++ trailer n (sum r))
 unfolding write
 writes n r out some few long room =
-    let c : functionCount (n ∷ 0 ∷ 0 ∷ 0 ∷ []) ≡ n = omega arith in
+    let c : functionCount (headerOf n) ≡ n = omega arith in
     let t : take (recordSize * n) (padded r) ≡ r = take-at r _ (recordSize * n) long in
     let d : drop (imageSize n) out ≡ [] = drop-of-length-le out {i = imageSize n} (omega arith) in
     rw (c, le-ltb (length out) (imageSize n) (omega arith), ne-eqb n 0 (omega arith), t, d)

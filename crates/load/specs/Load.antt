@@ -1,11 +1,12 @@
 -- Load: document 01, "The modelled board".
 use Prim.Native.Nat.{ℕ, _*_}
 use mathlib.Core.Bool.{cond}
-use mathlib.Core.List.{List, [], _∷_}
+use mathlib.Core.List.{List}
 use lib.Dec.{eqb}
 use lib.ListN.{length}
 use Rattle.numbers.specs.Tables.{filledUp}
 use Rattle.board.specs.Parts.{Parts}
+use Rattle.board.specs.Handles.{headerOf}
 use Rattle.board.specs.Layout.{functionsMax, recordSize, exponent}
 use Rattle.cells.specs.Cells.{offsetsOf}
 use Rattle.reset.specs.Reset.{restarted}
@@ -20,7 +21,7 @@ padded records = filledUp (functionsMax * recordSize) records
 -- the parts that an accepted image leaves
 abbrev pub installed : List ℕ → List ℕ → Parts
 installed image cells =
-    restarted (countOf image ∷ 0 ∷ 0 ∷ 0 ∷ []) (padded (recordsOf image)) (offsetsOf (exponent (padded (recordsOf image)))) cells
+    restarted (headerOf (countOf image)) (padded (recordsOf image)) (offsetsOf (exponent (padded (recordsOf image)))) cells
 
 pub record Loaded : Type 0 where
   pub verdict : Verdict

@@ -6,10 +6,11 @@ use mathlib.Core.Bool.{Bool, true, false, _&&_, false≢true}
 use mathlib.Core.Logic.{_⊎_, inl, inr}
 use mathlib.Core.Path.{_≡_, refl, sym, _∙_, ap}
 use mathlib.Core.List.{List, _++_}
-use lib.Dec.{leb, ltb}
+use lib.Dec.{eqb, leb, ltb}
 use lib.ListN.{length, getD, drop, length-append, length-drop}
 use lib.Seq.{getD-append-add, getD-drop}
 use borrow.Author.Tests.{ltb-false, leb-false}
+use Rattle.board.specs.Handles.{headerOf}
 use Rattle.numbers.specs.Tables.{tableFrom, table}
 use Rattle.numbers.proofs.Tables.{table-length}
 use Rattle.data_cells.specs.Cells.{cellsAfter}
@@ -25,6 +26,14 @@ alike t l = record { room = refl; same = λ i e. refl }
 
 pub touched : {A : Type 0} → true ≡ false → A
 touched e = absurd (false≢true (sym e))
+
+-- headers differ in their counts alone
+pub header-alike : (m n : ℕ) → Alike (λ i. eqb i 0) (headerOf m) (headerOf n)
+header-alike m n = record { room = refl; same = past }
+  where
+    past : (i : ℕ) → eqb i 0 ≡ false → getD (headerOf m) i 0 ≡ getD (headerOf n) i 0
+    past zero e = touched e
+    past (suc i) e = refl
 
 -- cells past those that are zeroed
 pub zeroed-alike : (n : ℕ) (cells : List ℕ) → n ≤ length cells → Alike (λ i. ltb i n) (zeroed n cells) cells

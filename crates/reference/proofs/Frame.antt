@@ -22,7 +22,7 @@ use Rattle.reference.specs.Reference.{Reference, exponentOf, joined, ima
 use Rattle.reference.specs.Run.{Asked, stepOn, referenceAfter, partsOf}
 use Rattle.reference.specs.Claims.{Touch, none, every, touch, nothing, addressed, mayTouch, Framed, Frame}
 use Rattle.reference.proofs.Tests.{ifTest, ifTarget, ifAt}
-use Rattle.reference.proofs.Alike.{alike, touched, zeroed-alike, table-alike, front-alike, written-alike}
+use Rattle.reference.proofs.Alike.{alike, touched, header-alike, zeroed-alike, table-alike, front-alike, written-alike}
 use Rattle.reference.proofs.Records.{joined-length}
 use Rattle.reference.proofs.Same.{accepted-whole}
 use Rattle.reference.proofs.Sound.{Sound}
@@ -33,7 +33,7 @@ use Rattle.reference.proofs.Stays.{Stays, cells-and-own, own-only, keep
 
 -- what a write of w registers may touch
 abbrev writeTouch : ℕ → ℕ → ℕ → Touch
-writeTouch w handle register = touch false (addressed w handle register) (movesWindows w register) false none none none
+writeTouch w handle register = touch none false (addressed w handle register) (movesWindows w register) false none none none
 
 module _ (b : Reference) (s : Sound b) (own : List ℕ) where
   stays-load : Stays (mayTouch b Load own) b own (referenceStep b Load own)
@@ -42,7 +42,7 @@ module _ (b : Reference) (s : Sound b) (own : List ℕ) where
       ifTest (Stays (mayTouch b Load own) b own) (eqb (verdict own (length (b .cells)) .number) 0)
       (λ e.
       record {
-        header = λ t. touched t;
+        header = header-alike _ _;
         records = λ t. touched t;
         offsets = λ t. touched t;
         registers = table-alike every (functionsMax * registersEach) _ _ (λ j u. touched u);
@@ -61,7 +61,7 @@ module _ (b : Reference) (s : Sound b) (own : List ℕ) where
       (λ e. keeps (mayTouch b Reset own) b own _)
       (λ e.
       record {
-        header = λ t. refl;
+        header = alike _ _;
         records = λ t. refl;
         offsets = λ t. refl;
         registers = table-alike every (functionsMax * registersEach) _ _ (λ j u. touched u);
@@ -105,7 +105,7 @@ module _ (b : Reference) (s : Sound b) (own : List ℕ) where
       (length (b .records)) w handle register
       (λ i h e k l.
       record {
-        header = λ u. refl;
+        header = alike _ _;
         records = λ u. refl;
         offsets = λ u. refl;
         registers = table-alike (addressed w handle register) (functionsMax * registersEach) _ _ (λ j u. rw (rw (e, add-one (j / registersEach), add-one i, eqb·suc-suc) at u));

@@ -9,6 +9,7 @@ use lib.ListN.{length}
 use lib.Seq.{ext-getD}
 use Rattle.numbers.specs.Numbers.{byteAt, little, big}
 use Rattle.numbers.specs.Tables.{table}
+use Rattle.board.specs.Handles.{headerOf}
 use Rattle.board.specs.Layout.{functionsMax, bases, recordSize, masksAt, entriesAt, entrySize, registersEach, recordByte, exponent, registerByte}
 use Rattle.numbers.proofs.Numbers.{little-same, big-same}
 use Rattle.numbers.proofs.Tables.{table-length, table-get}
@@ -64,7 +65,7 @@ module _ (rs : List (List ℕ)) (s : Sized rs) where
       rw e (kept-byte i (entriesAt + entrySize * b) (omega arith))
 
   pub list-kept : (r : ℕ → ℕ → ℕ) → length rs ≤ functionsMax
-      → windowList (length rs ∷ 0 ∷ 0 ∷ 0 ∷ []) (padded (joined rs)) (flat r) ≡ listOf (length rs) (exponentOf rs) r
+      → windowList (headerOf (length rs)) (padded (joined rs)) (flat r) ≡ listOf (length rs) (exponentOf rs) r
   list-kept r h =
       rw (min-eq-left h)
       (list-same (length rs) (exponent (padded (joined rs))) (exponentOf rs) (registerByte (flat r)) r

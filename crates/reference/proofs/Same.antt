@@ -10,6 +10,7 @@ use lib.ListN.{length, drop, replicate, length-take}
 use borrow.Author.Tests.{eqb-true}
 use Rattle.numbers.specs.Numbers.{byteAt}
 use Rattle.numbers.specs.Tables.{tableFrom}
+use Rattle.board.specs.Handles.{headerOf}
 use Rattle.board.specs.Layout.{functionsMax, bases, windowsMax, recordSize, entriesAt, entrySize, registersEach, hookSize, markSize, exponent}
 use Rattle.numbers.proofs.Tables.{table-same}
 use Rattle.hooks.specs.Hooks.{lastLine, numbers, packed}
@@ -47,7 +48,7 @@ module _ (rs : List (List ℕ)) (s : Sized rs) where
 
   -- the parts that a load or a reset leaves
   pub restart-same : (cells : List ℕ) → length rs ≤ functionsMax
-      → restarted (length rs ∷ 0 ∷ 0 ∷ 0 ∷ []) (padded (joined rs)) (offsetsOf (exponentOf rs)) cells ≡ partsOf (fresh rs cells)
+      → restarted (headerOf (length rs)) (padded (joined rs)) (offsetsOf (exponentOf rs)) cells ≡ partsOf (fresh rs cells)
   unfolding restarted partsOf
   restart-same cells h =
       rw (registers-same, list-kept rs s (λ i. byteAt (recordOf rs i)) h, offset-at (exponentOf rs) windowsMax (omega arith), no-hooks, no-marks)

@@ -39,7 +39,7 @@ pub cells-and-own : (t : Touch) (b : Reference) (cells own out : List ℕ) (a : 
 unfolding partsOf
 cells-and-own t b cells own out a c k =
     record {
-      header = λ e. refl;
+      header = alike _ _;
       records = λ e. refl;
       offsets = λ e. refl;
       registers = alike _ _;
@@ -62,7 +62,7 @@ chain-only : (t : Touch) (b : Reference) (own : List ℕ) (a : Answer) (line : �
 unfolding partsOf
 chain-only t b own a line chain h =
     record {
-      header = λ e. refl;
+      header = alike _ _;
       records = λ e. refl;
       offsets = λ e. refl;
       registers = alike _ _;
@@ -136,7 +136,7 @@ module _ (b : Reference) (own : List ℕ) where
       ifTest (Stays t b own) (leb status 3)
       (λ e.
       record {
-        header = λ u. refl;
+        header = alike _ _;
         records = λ u. refl;
         offsets = λ u. refl;
         registers = alike _ _;

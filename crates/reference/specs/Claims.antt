@@ -110,8 +110,9 @@ pub record Refines (cells : List ℕ) (cs : List Asked) : Type 0 where
 abbrev pub Refinement : Type 0
 Refinement = (cells : List ℕ) (cs : List Asked) → Refines cells cs
 
--- 3. FRAME. What a call may touch: the records with their count and cell offsets, registers, the kept window list, hooks, used marks, cells, its own bytes.
+-- 3. FRAME. What a call may touch: header numbers, the records with their cell offsets, registers, the kept window list, hooks, used marks, cells, its own bytes.
 pub record Touch : Type 0 where
+  pub header : ℕ → Bool
   pub records : Bool
   pub registers : ℕ → Bool
   pub list : Bool
@@ -126,9 +127,9 @@ none i = false
 abbrev pub every : ℕ → Bool
 every i = true
 
-abbrev pub touch : Bool → (ℕ → Bool) → Bool → Bool → (ℕ → Bool) → (ℕ → Bool) → (ℕ → Bool) → Touch
-touch records registers list hooks used cells own =
-    record { records = records; registers = registers; list = list; hooks = hooks; used = used; cells = cells; own = own }
+abbrev pub touch : (ℕ → Bool) → Bool → (ℕ → Bool) → Bool → Bool → (ℕ → Bool) → (ℕ → Bool) → (ℕ → Bool) → Touch
+touch header records registers list hooks used cells own =
+    record { header = header; records = records; registers = registers; list = list; hooks = hooks; used = used; cells = cells; own = own }
 
 -- place j of the registers is one of the w bytes from a register of a handle on
 abbrev pub addressed : ℕ → ℕ → ℕ → ℕ → Bool
@@ -141,27 +142,27 @@ accessed w (At at order) j = leb at j && ltb j (at + w)
 accessed w (Refused s) j = false
 
 abbrev pub nothing : Touch
-nothing = touch false none false false none none none
+nothing = touch none false none false false none none none
 
 -- what only a write touches
 abbrev pub ifWrites : Access → Touch → Touch
 ifWrites access t = cond (writes access) t nothing
 
--- document 01's list, "Runs and the book"
+-- document 01's list, "Runs and the book"; the header's first number is the count of the records
 unfoldable pub mayTouch : Reference → Call → List ℕ → Touch
-mayTouch b Load own = touch true every true true every (λ i. ltb i (total (exponentOf (imageRecords own)))) none
-mayTouch b Reset own = touch false every true true every (λ i. ltb i (total (exponentOf (b .records)))) none
-mayTouch b WriteImage own = touch false none false false none none (λ i. ltb i (imageSize (length (b .records))))
+mayTouch b Load own = touch (λ i. eqb i 0) true every true true every (λ i. ltb i (total (exponentOf (imageRecords own)))) none
+mayTouch b Reset own = touch none false every true true every (λ i. ltb i (total (exponentOf (b .records)))) none
+mayTouch b WriteImage own = touch none false none false false none none (λ i. ltb i (imageSize (length (b .records))))
 mayTouch b (Config width handle register access) own =
-    ifWrites access (touch false (addressed (bytes width) handle register) (movesWindows (bytes width) register) false none none none)
+    ifWrites access (touch none false (addressed (bytes width) handle register) (movesWindows (bytes width) register) false none none none)
 mayTouch b (Data space width handle address access) own =
     let place = placeFor b (bytes width) (spaceNumber space) handle (address .0) in
-    ifWrites access (touch false none false false none (accessed (bytes width) place) none)
+    ifWrites access (touch none false none false false none (accessed (bytes width) place) none)
 mayTouch b (GetResource handle) own =
-    touch false none false false none none (λ i. ltb i (size * length (windowBases (exponentOf (b .records) (handle - 1)))))
-mayTouch b (HookInterrupt handle handler parameter) own = touch false none false true none none none
-mayTouch b (UnhookInterrupt handle) own = touch false none false true none none none
-mayTouch b (SetCardUsed handle status callBack) own = touch false none false false (λ j. eqb (j / markSize + 1) handle) none none
+    touch none false none false false none none (λ i. ltb i (size * length (windowBases (exponentOf (b .records) (handle - 1)))))
+mayTouch b (HookInterrupt handle handler parameter) own = touch none false none false true none none none
+mayTouch b (UnhookInterrupt handle) own = touch none false none false true none none none
+mayTouch b (SetCardUsed handle status callBack) own = touch none false none false false (λ j. eqb (j / markSize + 1) handle) none none
 mayTouch b (Ask query) own = nothing
 
 -- two lists have the same length, and the same wherever a touch is not allowed
@@ -171,7 +172,7 @@ pub record Alike (t : ℕ → Bool) (l m : List ℕ) : Type 0 where
 
 -- what a call may not touch is equal before and after it
 pub record Framed (t : Touch) (p : Parts) (lent : List ℕ) (n : Next) : Type 0 where
-  pub header : t .records ≡ false → n .parts .header ≡ p .header
+  pub header : Alike (t .header) (n .parts .header) (p .header)
   pub records : t .records ≡ false → n .parts .records ≡ p .records
   pub offsets : t .records ≡ false → n .parts .cellOffsets ≡ p .cellOffsets
   pub registers : Alike (t .registers) (n .parts .registers) (p .registers)

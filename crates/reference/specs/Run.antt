@@ -4,7 +4,8 @@ use mathlib.Core.List.{List, [], _∷_, _++_}
 use lib.ListN.{length, replicate}
 use Rattle.numbers.specs.Tables.{table}
 use Rattle.board.specs.Parts.{Parts, parts}
-use Rattle.board.specs.Layout.{functionsMax, recordSize, registersEach, windowsMax, hookSize, markSize}
+use Rattle.board.specs.Handles.{headerOf}
+use Rattle.board.specs.Layout.{headerSize, functionsMax, recordSize, registersEach, windowsMax, hookSize, markSize}
 use Rattle.window_list.specs.Kept.{keptList}
 use Rattle.hooks.specs.Hooks.{Hook, lastLine, packed}
 use Rattle.card_used.specs.Used.{marksOf}
@@ -63,7 +64,7 @@ lineByLine chains (suc n) = lineByLine chains n ++ chains n
 -- the lent parts of a board that the reference machine describes: every part is a function of it
 unfoldable pub partsOf : Reference → Parts
 partsOf b =
-    parts (length (b .records) ∷ 0 ∷ 0 ∷ 0 ∷ []) (padded (joined (b .records)))
+    parts (headerOf (length (b .records))) (padded (joined (b .records)))
     (table (functionsMax * registersEach) (λ j. b .registers (j / registersEach) (j % registersEach))) (keptList (windowsOf b))
     (offsetsOf (exponentOf (b .records))) (packed (lineByLine (b .chains) (lastLine + 1)))
     (marksOf (b .used)) (b .cells)
@@ -71,5 +72,5 @@ partsOf b =
 -- the lent parts at the start, with any cells
 unfoldable pub start : List ℕ → Parts
 start cells =
-    parts (replicate 4 0) (replicate (functionsMax * recordSize) 0) (replicate (functionsMax * registersEach) 0) (replicate windowsMax 0)
+    parts (replicate headerSize 0) (replicate (functionsMax * recordSize) 0) (replicate (functionsMax * registersEach) 0) (replicate windowsMax 0)
     (replicate (windowsMax + 1) 0) (replicate (functionsMax * hookSize) 0) (replicate (functionsMax * markSize) 0) cells
