@@ -14,7 +14,7 @@ bases = 6
 abbrev pub windowsMax : ℕ
 windowsMax = 96
 
--- bytes of a record, and where its parts begin after the 256 reset values
+-- bytes of a record as the lent records keep it, and where its parts begin after the 256 reset values
 abbrev pub recordSize : ℕ
 recordSize = 544
 

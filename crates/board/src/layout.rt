@@ -15,7 +15,7 @@ pub const BASES: usize = 6;
 
 pub const WINDOWS: usize = FUNCTIONS * BASES;
 
-// Bytes of a loaded record: reset values, masks, window entries, offset, dmaoffset.
+// Bytes of a kept record, as the lent part `records` holds it: reset values, masks, window entries, offset, dmaoffset.
 pub const RECORD: usize = 544;
 
 pub const MASKS: u32 = 256;

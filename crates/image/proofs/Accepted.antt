@@ -8,9 +8,9 @@ use lib.Dec.{ltb, eqb}
 use lib.ListN.{length, drop, length-drop}
 use lib.Seq.{length-take-le}
 use borrow.Author.Tests.{eq-eqb, ne-eqb, le-ltb, ltb-false, eqb-true, eqb-false, not-false}
-use Rattle.board.specs.Layout.{functionsMax, recordSize}
+use Rattle.board.specs.Layout.{functionsMax}
 use Rattle.numbers.proofs.Tests.{either-false}
-use Rattle.image_format.specs.Image.{trailerSize, imageSize, countOf, recordsOf}
+use Rattle.image_format.specs.Image.{imageRecord, trailerSize, imageSize, countOf, recordsOf}
 use Rattle.refusals.specs.Refusals.{Facts, imageMax, cellsMax, accepted, refused, badRecord, firstRefusal}
 use Rattle.refusals.specs.Steps.{formRefusal, recordsVerdict, cellsVerdict}
 use Rattle.image.specs.Check.{factsOf, checked}
@@ -124,7 +124,7 @@ unfolding checked
 accepted-elsewhere image r k room = rw (le-ltb imageMax (length image) (k .short)) (cells-left (factsOf image) r (k .fine) room)
 
 -- the records are all there
-pub records-length : (image : List ℕ) (room : ℕ) → Accepted image room → length (recordsOf image) ≡ recordSize * countOf image
+pub records-length : (image : List ℕ) (room : ℕ) → Accepted image room → length (recordsOf image) ≡ imageRecord * countOf image
 records-length image room k =
     let h = k .fine .whole in
-    length-take-le (recordSize * countOf image) (drop (length image - imageSize (countOf image)) image) (rw length-drop (omega arith))
+    length-take-le (imageRecord * countOf image) (drop (length image - imageSize (countOf image)) image) (rw length-drop (omega arith))

@@ -1,10 +1,9 @@
 // The check of a board image, without a board.
-use board::layout::RECORD;
 use cells::cells::total_of;
-use image_format::sum::TRAILER;
+use image_format::layout::IMAGE_RECORD;
+use image_format::layout::records_range;
 use image_format::sum::sum_of;
-use numbers::number::Width;
-use numbers::number::big_at;
+use image_format::trailer::trailer_of;
 use record::rules::record_ok;
 use refusals::verdict::Verdict;
 use refusals::verdict::cells_verdict;
@@ -13,9 +12,9 @@ use refusals::verdict::plain;
 ghost use mathlib.Core.Path.{_≡_};
 ghost use Prim.Native.Nat.{_*_, _<_, _≤_};
 ghost use lib.ListN.{length};
-ghost use Rattle.board.specs.Layout.{functionsMax, recordSize, exponent};
+ghost use Rattle.board.specs.Layout.{functionsMax, exponent};
 ghost use Rattle.cells.specs.Cells.{total};
-ghost use Rattle.image_format.specs.Image.{recordAt, sum};
+ghost use Rattle.image_format.specs.Image.{imageRecord, recordAt, sum};
 ghost use Rattle.refusals.specs.Refusals.{firstBad};
 ghost use Rattle.refusals.specs.Steps.{recordsVerdict};
 ghost use Rattle.image.specs.Check.{judged, checked};
@@ -25,13 +24,13 @@ pub const IMAGE: usize = 65536;
 
 // The first of count records that breaks a rule, count where none does.
 fn first_bad(records: &[u8], count: usize) -> usize
-    requires { ⌜ (count ≤ functionsMax) × (length (now records) ≡ recordSize * count) ⌝ }
+    requires { ⌜ (count ≤ functionsMax) × (length (now records) ≡ imageRecord * count) ⌝ }
     ensures { λ r. ⌜ r ≡ firstBad (recordAt (now (records .entry))) 0 count ⌝ }
 {
     let mut i = 0;
     while i < count {
-        let from = RECORD * i;
-        let to = from + RECORD;
+        let from = IMAGE_RECORD * i;
+        let to = from + IMAGE_RECORD;
         if !record_ok(&records[from..to]) {
             return i;
         }
@@ -42,7 +41,7 @@ fn first_bad(records: &[u8], count: usize) -> usize
 
 // Refusals 5 to 8 of count records, with the sum that the trailer says.
 fn records_verdict(records: &[u8], count: usize, said: u32, room: usize) -> Verdict
-    requires { ⌜ (count ≤ functionsMax) × (length (now records) ≡ recordSize * count) ⌝ }
+    requires { ⌜ (count ≤ functionsMax) × (length (now records) ≡ imageRecord * count) ⌝ }
     ensures { λ r. ⌜ r ≡ recordsVerdict (sum (now (records .entry))) said (firstBad (recordAt (now (records .entry))) 0 count) count (total (exponent (now (records .entry)))) room ⌝ }
 {
     if sum_of(records) != said {
@@ -62,22 +61,15 @@ fn records_verdict(records: &[u8], count: usize, said: u32, room: usize) -> Verd
 pub(crate) fn judge(image: &[u8], room: usize) -> Verdict
     ensures { λ r. ⌜ r ≡ judged (now (image .entry)) room ⌝ }
 {
-    let long = image.len();
-    if long < TRAILER {
-        return plain(1);
-    }
-    let count = big_at(image, long - 8, Width::Word);
-    let edition = big_at(image, long - 6, Width::Word);
-    let distance = big_at(image, long - 12, Width::Long);
-    let form = form_refusal(long, edition, count, distance);
+    let t = trailer_of(image);
+    let form = form_refusal(image.len(), t.edition, t.count, t.distance);
     if form != 0 {
         return plain(form);
     }
-    let n = count as usize;
-    let from = long - (RECORD * n + TRAILER);
-    let to = from + RECORD * n;
-    let said = big_at(image, long - 4, Width::Long);
-    records_verdict(&image[from..to], n, said, room)
+    let range = records_range(image.len(), t.count);
+    let from = range.from;
+    let to = range.to;
+    records_verdict(&image[from..to], t.count as usize, t.sum, room)
 }
 
 // Whether a board may be loaded from an image with so many cells lent.

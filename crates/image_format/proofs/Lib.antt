@@ -1,2 +1,3 @@
 -- The laws that proofs here and above cite.
 pub mod Lists
+pub mod Ranges

@@ -5,8 +5,8 @@ use mathlib.Core.Path.{_≡_, ap}
 use mathlib.Core.List.{List, _∷_}
 use lib.ListN.{length, getD, take, drop}
 use lib.Seq.{drop-cons, take-all}
-use Rattle.board.specs.Layout.{functionsMax, recordSize}
-use Rattle.image_format.specs.Image.{sum}
+use Rattle.board.specs.Layout.{functionsMax}
+use Rattle.image_format.specs.Image.{imageRecord, sum}
 
 -- the part from the place below i is one element more than the part from i
 pub drop-pred : (s : List ℕ) (i : ℕ) → 0 < i → i ≤ length s → drop (i - 1) s ≡ getD s (i - 1) 0 ∷ drop i s
@@ -15,6 +15,6 @@ drop-pred s (suc j) p h =
     let e : suc j - 1 ≡ j = omega arith in
     rw e (drop-cons s j 0 h)
 
--- of no more bytes than a board's records have, all are added
-pub sum-whole : (l : List ℕ) → length l ≤ functionsMax * recordSize → sum (take (functionsMax * recordSize) l) ≡ sum l
-sum-whole l h = ap sum (take-all (functionsMax * recordSize) l h)
+-- of no more bytes than an image's records have, all are added
+pub sum-whole : (l : List ℕ) → length l ≤ functionsMax * imageRecord → sum (take (functionsMax * imageRecord) l) ≡ sum l
+sum-whole l h = ap sum (take-all (functionsMax * imageRecord) l h)

@@ -4,13 +4,19 @@ use mathlib.Core.List.{List, [], _∷_, _++_}
 use lib.ListN.{length, take, drop}
 use Rattle.numbers.specs.Numbers.{byteAt, big, bigBytes}
 use Rattle.board.specs.Layout.{recordSize}
+use Rattle.image_format.specs.declared.layout.Range.{Range}
+use Rattle.image_format.specs.declared.trailer.Trailer.{Trailer}
+
+-- bytes of a record as an image has it, and of the trailer
+abbrev pub imageRecord : ℕ
+imageRecord = 544
 
 abbrev pub trailerSize : ℕ
 trailerSize = 12
 
 -- count records and the trailer
 abbrev pub imageSize : ℕ → ℕ
-imageSize count = recordSize * count + trailerSize
+imageSize count = imageRecord * count + trailerSize
 
 -- the w bytes at a distance back from the end, highest first
 abbrev pub back : ℕ → List ℕ → ℕ → ℕ
@@ -29,19 +35,28 @@ editionOf image = back 2 image 6
 abbrev pub sumOf : List ℕ → ℕ
 sumOf image = back 4 image 4
 
+abbrev pub trailerOf : List ℕ → Trailer
+trailerOf image =
+    record { distance = distanceOf image; count = countOf image; edition = editionOf image; sum = sumOf image }
+
+-- where the records stand in an image of so many bytes
+abbrev pub recordsRange : ℕ → ℕ → Range
+recordsRange long count =
+    record { from = long - imageSize count; to = long - imageSize count + imageRecord * count }
+
 -- the bytes of the records, and those of the record at place i of them
 abbrev pub recordsOf : List ℕ → List ℕ
-recordsOf image = take (recordSize * countOf image) (drop (length image - imageSize (countOf image)) image)
+recordsOf image = take (imageRecord * countOf image) (drop (length image - imageSize (countOf image)) image)
 
 abbrev pub recordAt : List ℕ → ℕ → List ℕ
-recordAt records i = take recordSize (drop (recordSize * i) records)
+recordAt records i = take imageRecord (drop (imageRecord * i) records)
 
 -- sum of all bytes
 unfoldable pub sum : List ℕ → ℕ
 sum [] = 0
 sum (b ∷ l) = b + sum l
 
--- an image without notes
+-- an image without notes, of the first count kept records
 abbrev pub trailer : ℕ → ℕ → List ℕ
 trailer count sum = bigBytes 4 (imageSize count) ++ (bigBytes 2 count ++ (bigBytes 2 1 ++ bigBytes 4 sum))
 

@@ -1,19 +1,16 @@
-// The sum of the bytes of records, and the trailer's length.
+// The sum of the bytes of records.
+use crate::layout::IMAGE_RECORD;
 use board::layout::FUNCTIONS;
-use board::layout::RECORD;
 use numbers::number::wide;
 ghost use mathlib.Core.Path.{_≡_};
 ghost use Prim.Native.Nat.{_*_, _≤_};
 ghost use lib.ListN.{length, take};
-ghost use Rattle.board.specs.Layout.{functionsMax, recordSize};
-ghost use Rattle.image_format.specs.Image.{sum};
+ghost use Rattle.board.specs.Layout.{functionsMax};
+ghost use Rattle.image_format.specs.Image.{imageRecord, sum};
 
-// Bytes of the trailer.
-pub const TRAILER: usize = 12;
-
-// The sum of bytes that are no more than the records of a board.
+// The sum of bytes that are no more than the records of an image.
 fn sum_all(s: &[u8]) -> u32
-    requires { ⌜ length (now s) ≤ functionsMax * recordSize ⌝ }
+    requires { ⌜ length (now s) ≤ functionsMax * imageRecord ⌝ }
     ensures { λ r. ⌜ r ≡ sum (now (s .entry)) ⌝ }
 {
     let mut t: u32 = 0;
@@ -25,11 +22,11 @@ fn sum_all(s: &[u8]) -> u32
     t
 }
 
-// The sum of the bytes of records; a board has no more records than are counted here.
+// The sum of the bytes of an image's records; no image has more records than are counted here.
 pub fn sum_of(s: &[u8]) -> u32
-    ensures { λ r. ⌜ r ≡ sum (take (functionsMax * recordSize) (now (s .entry))) ⌝ }
+    ensures { λ r. ⌜ r ≡ sum (take (functionsMax * imageRecord) (now (s .entry))) ⌝ }
 {
-    let most = FUNCTIONS * RECORD;
+    let most = FUNCTIONS * IMAGE_RECORD;
     if most < s.len() {
         return sum_all(&s[..most]);
     }

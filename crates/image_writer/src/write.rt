@@ -4,7 +4,9 @@ use board::layout::Header;
 use board::layout::RECORD;
 use board::layout::Records;
 use bytes::copy;
-use image_format::sum::TRAILER;
+use image_format::layout::IMAGE_RECORD;
+use image_format::layout::TRAILER;
+use image_format::layout::image_size;
 use image_format::sum::sum_of;
 ghost use mathlib.Core.Path.{_≡_};
 ghost use Prim.Native.Nat.{_+_, _*_, _/_, _%_, _<_, _≤_};
@@ -27,7 +29,7 @@ fn trailer(count: u32, sum: u32) -> [u8; TRAILER]
     requires { ⌜ count ≤ functionsMax ⌝ }
     ensures { λ r. ⌜ r ≡ trailer count sum ⌝ }
 {
-    let size = RECORD as u32 * count + TRAILER as u32;
+    let size = image_size(count) as u32;
     [
         byte_of(size, 16777216),
         byte_of(size, 65536),
@@ -44,15 +46,16 @@ fn trailer(count: u32, sum: u32) -> [u8; TRAILER]
     ]
 }
 
-// An image of the loaded records at the front of the output.
+// An image at the front of the output: the kept records, which an image has as they are, and the trailer where they end there.
 fn put_image(records: &[u8], count: u32, out: &mut [u8])
     requires { ⌜ (count ≤ functionsMax) × ((length (now records) ≡ functionsMax * recordSize) × (imageSize count ≤ length (now out))) ⌝ }
     ensures { λ _. ⌜ now (out .exit) ≡ imageOf count (now (records .entry)) ++ drop (imageSize count) (now (out .entry)) ⌝ }
 {
-    let n = RECORD * count as usize;
-    copy(&records[..n], out);
-    let t = trailer(count, sum_of(&records[..n]));
-    copy(&t, &mut out[n..]);
+    let kept = RECORD * count as usize;
+    copy(&records[..kept], out);
+    let t = trailer(count, sum_of(&records[..kept]));
+    let end = IMAGE_RECORD * count as usize;
+    copy(&t, &mut out[end..]);
 }
 
 // The loaded board as an image; the number of the refusal, 0 for none.
@@ -60,7 +63,7 @@ pub fn write_image(header: &Header, records: &Records, out: &mut [u8]) -> u8
     ensures { λ r. ⌜ written r (now (out .exit)) ≡ write (now (header .entry)) (now (records .entry)) (now (out .entry)) ⌝ }
 {
     let count = function_count(header);
-    if out.len() < RECORD * count as usize + TRAILER {
+    if out.len() < image_size(count) {
         return 1;
     }
     if count == 0 {

@@ -5,7 +5,9 @@ use mathlib.Core.Path.{_≡_, refl, _∙_, ap}
 use mathlib.Core.List.{List, [], _∷_, _++_}
 use lib.ListN.{length, getD, take, drop, replicate}
 use Rattle.board.specs.Layout.{functionsMax, recordSize, entriesAt, entrySize, bases, windowsMax, exponent}
-use Rattle.image_format.specs.Image.{imageSize, countOf, recordsOf}
+use Rattle.image_format.specs.Image.{countOf, recordsRange, recordsOf}
+use Rattle.image_format.specs.declared.layout.Range.{Range}
+use Rattle.image_format.proofs.Ranges.{part, range-part}
 use Rattle.load.specs.Load.{padded}
 use Rattle.cells.specs.Cells.{total}
 use Rattle.image_writer.proofs.Lists.{copied}
@@ -28,18 +30,12 @@ zeros-after (x ∷ l) n (suc j) = zeros-after l n j
 pub copied-padded : (src out : List ℕ) → out ≡ src ++ drop (length src) (replicate (functionsMax * recordSize) 0) → out ≡ padded src
 copied-padded src out e = e ∙ ap (λ (l : List ℕ). src ++ l) (drop-zeros (length src) (functionsMax * recordSize))
 
--- the part of an image between two places, copied over zeros
-pub records-copied : (image out : List ℕ) (count : ℕ) → count ≡ countOf image
-    → (let from = length image - imageSize count in
-    let part = take (from + recordSize * count - from) (drop from image) in
-    out ≡ take (length part) part ++ drop (length part) (replicate (functionsMax * recordSize) 0))
+-- the part of an image in the range of its records, copied over zeros
+pub records-copied : (r : Range) (image out : List ℕ) → r ≡ recordsRange (length image) (countOf image)
+    → out ≡ take (length (part r image)) (part r image) ++ drop (length (part r image)) (replicate (functionsMax * recordSize) 0)
     → out ≡ padded (recordsOf image)
-records-copied image out count c e =
-    let from = length image - imageSize count in
-    let part = take (from + recordSize * count - from) (drop from image) in
-    let n : from + recordSize * count - from ≡ recordSize * count = omega arith in
-    let p : part ≡ recordsOf image = rw (n, c) in
-    copied-padded part out (copied part _ out e) ∙ ap padded p
+records-copied r image out c e =
+    copied-padded (part r image) out (copied (part r image) _ out e) ∙ ap padded (range-part r image c)
 
 -- zeros after the records add no cells
 pub padded-total : (records : List ℕ) → total (exponent (padded records)) ≡ total (exponent records)

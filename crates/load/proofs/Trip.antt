@@ -16,7 +16,7 @@ use Rattle.board.specs.Handles.{headerOf, functionCount}
 use Rattle.numbers.proofs.Numbers.{big-below, big-bytes, bytes-big}
 use Rattle.numbers.proofs.Tables.{table-length}
 use Rattle.cells.specs.Cells.{total, offsetsOf}
-use Rattle.image_format.specs.Image.{imageSize, back, distanceOf, countOf, editionOf, sumOf, recordsOf, sum, trailer}
+use Rattle.image_format.specs.Image.{imageRecord, imageSize, back, distanceOf, countOf, editionOf, sumOf, recordsOf, sum, trailer}
 use Rattle.refusals.specs.Refusals.{accepted}
 use Rattle.refusals.specs.Steps.{cellsVerdict}
 use Rattle.image.specs.Check.{factsOf, checked}
@@ -50,17 +50,17 @@ read-back w v d image before after e at small =
     ∙ mod-eq-of-lt small
 
 -- the records of an image that has just these and its trailer
-only-records : (n : ℕ) (image r t : List ℕ) → image ≡ r ++ t → length image ≡ imageSize n → length r ≡ recordSize * n → countOf image ≡ n
+only-records : (n : ℕ) (image r t : List ℕ) → image ≡ r ++ t → length image ≡ imageSize n → length r ≡ imageRecord * n → countOf image ≡ n
     → recordsOf image ≡ r
 only-records n image r t e size long count =
     let z : length image - imageSize n ≡ 0 = omega arith in
-    ap (λ (c : ℕ). take (recordSize * c) (drop (length image - imageSize c) image)) count
-    ∙ ap (λ (d : ℕ). take (recordSize * n) (drop d image)) z
-    ∙ ap (take (recordSize * n)) e
-    ∙ take-at r t (recordSize * n) long
+    ap (λ (c : ℕ). take (imageRecord * c) (drop (length image - imageSize c) image)) count
+    ∙ ap (λ (d : ℕ). take (imageRecord * n) (drop d image)) z
+    ∙ ap (take (imageRecord * n)) e
+    ∙ take-at r t (imageRecord * n) long
 
 -- an image of n records and a trailer says what was written
-says : (n s : ℕ) (r : List ℕ) → length r ≡ recordSize * n → n ≤ functionsMax → s < 256 ^ 4 → Says (r ++ trailer n s) r n s
+says : (n s : ℕ) (r : List ℕ) → length r ≡ imageRecord * n → n ≤ functionsMax → s < 256 ^ 4 → Says (r ++ trailer n s) r n s
 says n s r long few small =
     let a = bigBytes 4 (imageSize n) in
     let b = bigBytes 2 n in
@@ -161,7 +161,7 @@ unfolding restarted
 installed-records image cells = refl
 
 -- the writer's answer of n loaded records, where the output has just the room
-writes : (n : ℕ) (r out : List ℕ) → 0 < n → n ≤ functionsMax → length r ≡ recordSize * n → length out ≡ imageSize n
+writes : (n : ℕ) (r out : List ℕ) → 0 < n → n ≤ functionsMax → length r ≡ imageRecord * n → length out ≡ imageSize n
     → write (headerOf n) (padded r) out ≡ written 0 (r ++ trailer n (sum r))
 unfolding write
 writes n r out some few long room =
@@ -242,11 +242,11 @@ unfolding again
 again-same image room k size small =
     let n = countOf image in
     let z : length image - imageSize n ≡ 0 = omega arith in
-    let front : recordsOf image ≡ take (recordSize * n) image = ap (λ (d : ℕ). take (recordSize * n) (drop d image)) z in
-    let rest = same-trailer image room k ∙ last-twelve (recordSize * n) image small size in
+    let front : recordsOf image ≡ take (imageRecord * n) image = ap (λ (d : ℕ). take (imageRecord * n) (drop d image)) z in
+    let rest = same-trailer image room k ∙ last-twelve (imageRecord * n) image small size in
     ap (λ (l : List ℕ). l ++ trailer n (sum (recordsOf image))) front
-    ∙ ap (λ (l : List ℕ). take (recordSize * n) image ++ l) rest
-    ∙ take-append-drop (recordSize * n) image
+    ∙ ap (λ (l : List ℕ). take (imageRecord * n) image ++ l) rest
+    ∙ take-append-drop (imageRecord * n) image
 
 pub written-back : WrittenBack
 written-back p image out e size small room =

@@ -6,9 +6,8 @@ use board::layout::RECORD;
 use board::layout::Records;
 use bytes::copy;
 use cells::cells::place_cells;
-use image_format::sum::TRAILER;
-use numbers::number::Width;
-use numbers::number::big_at;
+use image_format::layout::records_range;
+use image_format::trailer::trailer_of;
 ghost use mathlib.Core.Path.{_≡_};
 ghost use Prim.Native.Nat.{_≤_};
 ghost use lib.ListN.{length};
@@ -18,13 +17,14 @@ ghost use Rattle.load.specs.Load.{padded};
 ghost use Rattle.load.specs.Steps.{Installed};
 
 // The records of an accepted image, zeros after the last.
-fn copy_records(image: &[u8], count: usize, records: &mut Records)
+fn copy_records(image: &[u8], count: u32, records: &mut Records)
     requires { ⌜ (count ≡ countOf (now image)) × ((count ≤ functionsMax) × (imageSize count ≤ length (now image))) ⌝ }
     ensures { λ _. ⌜ now (records .exit) ≡ padded (recordsOf (now (image .entry))) ⌝ }
 {
     *records = [0u8; FUNCTIONS * RECORD];
-    let from = image.len() - (RECORD * count + TRAILER);
-    let to = from + RECORD * count;
+    let range = records_range(image.len(), count);
+    let from = range.from;
+    let to = range.to;
     copy(&image[from..to], records);
 }
 
@@ -37,8 +37,8 @@ pub(crate) fn install(
     requires { ⌜ (countOf (now image) ≤ functionsMax) × (imageSize (countOf (now image)) ≤ length (now image)) ⌝ }
     ensures { λ _. ⌜ Installed (now (image .entry)) (now (header .exit)) (now (records .exit)) (now (offsets .exit)) ⌝ }
 {
-    let count = big_at(image, image.len() - 8, Width::Word);
+    let count = trailer_of(image).count;
     *header = [count, 0, 0, 0];
-    copy_records(image, count as usize, records);
+    copy_records(image, count, records);
     place_cells(records, offsets);
 }

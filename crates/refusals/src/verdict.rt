@@ -1,7 +1,7 @@
 // The verdict of a check: what needs no bytes of the image.
 use board::layout::FUNCTIONS;
-use board::layout::RECORD;
-use image_format::sum::TRAILER;
+use image_format::layout::TRAILER;
+use image_format::layout::image_size;
 ghost use mathlib.Core.Path.{_≡_};
 ghost use Prim.Native.Nat.{_≤_};
 ghost use Rattle.board.specs.Layout.{functionsMax};
@@ -44,7 +44,7 @@ pub fn form_refusal(long: usize, edition: u32, count: u32, distance: u32) -> u8
     if (FUNCTIONS as u32) < count {
         return 3;
     }
-    let size = RECORD * count as usize + TRAILER;
+    let size = image_size(count);
     if (distance as usize) != size {
         return 4;
     }

@@ -6,7 +6,7 @@ use native.Mathlib.Omega.{arith}
 use native.Mathlib.Nat.{sub-zero}
 use borrow.Author.Tests.{not-true, not-false}
 use Rattle.record.specs.Record.{recordOk}
-use Rattle.image_format.specs.Image.{recordAt}
+use Rattle.image_format.specs.Image.{imageRecord, recordAt}
 use Rattle.refusals.specs.Refusals.{firstBad}
 use borrow.Author.Needs.{needs}
 use Rattle.image.proofs.check.first_bad.Statement.{statement}
@@ -45,7 +45,7 @@ returns c =
     let l = c .before .before .before .before .loop in
     let a = c .before .before .before .before .before .before .args in
     let left : a .count - l .i ≡ suc (a .count - (l .i + 1)) = omega arith in
-    let long : 544 * l .i + 544 - 544 * l .i ≡ 544 = omega arith in
+    let long : imageRecord * l .i + imageRecord - imageRecord * l .i ≡ imageRecord = omega arith in
     let bad : recordOk (recordAt (a .records .now) (l .i)) ≡ false = rw long at (sym (c .before .record-ok .ensures) ∙ not-true _ (c .if1 .taken)) in
     rw (left, bad) at (l .inv .1)
 
@@ -61,7 +61,7 @@ loop-again c =
     let l = c .before .before .before .before .loop in
     let a = c .before .before .before .before .before .before .args in
     let left : a .count - l .i ≡ suc (a .count - (l .i + 1)) = omega arith in
-    let long : 544 * l .i + 544 - 544 * l .i ≡ 544 = omega arith in
+    let long : imageRecord * l .i + imageRecord - imageRecord * l .i ≡ imageRecord = omega arith in
     let good : recordOk (recordAt (a .records .now) (l .i)) ≡ true = rw long at (sym (c .before .record-ok .ensures) ∙ not-false _ (c .if1 .left)) in
     (omega arith, rw (left, good) at (l .inv .1))
 

@@ -1,129 +1,79 @@
--- `judge`: the trailer's numbers are read where the definition reads them; once they pass, the slice lent on is the records.
-use Prim.Native.Nat.{_+_, _-_, _*_}
-use mathlib.Core.Path.{_≡_, sym, _∙_}
-use native.Mathlib.Omega.{arith}
-use lib.ListN.{length}
-use borrow.Author.Tests.{eq-eqb, ne-eqb, lt-ltb}
-use Rattle.refusals.specs.Refusals.{firstRefusal}
+-- `judge`: the trailer's numbers first; once they pass, the part lent on is the records.
+use mathlib.Core.Path.{sym, _∙_}
+use borrow.Author.Tests.{eq-eqb, ne-eqb}
+use Rattle.image_format.proofs.Ranges.{Ranged, ranged, range-part}
 use Rattle.image.proofs.Accepted.{by-steps}
 use borrow.Author.Needs.{needs}
+use native.Mathlib.Omega.{arith}
 use Rattle.image.proofs.check.judge.Statement.{statement}
 use Rattle.image.proofs.check.judge.Tie as tie
+
+trailer-of-requires : tie.Need-trailer-of-requires
+trailer-of-requires c κs = search needs
+
+form-refusal-requires : tie.Need-form-refusal-requires
+form-refusal-requires c κs = search needs
 
 plain-requires : tie.Need-plain-requires
 plain-requires c κs = search needs
 
 returns : tie.Need-returns
-unfolding firstRefusal
 returns c =
-    let long = length (c .before .before .before .args .image .now) in
-    c .plain .ensures ∙ simp (lt-ltb long 12 (omega arith))
-
-sub-big-at : tie.Need-sub-big-at
-sub-big-at c = search needs
-
-big-at-requires : tie.Need-big-at-requires
-big-at-requires c κs = search needs
-
-sub-big-at-2 : tie.Need-sub-big-at-2
-sub-big-at-2 c = search needs
-
-big-at-requires-2 : tie.Need-big-at-requires-2
-big-at-requires-2 c κs = search needs
-
-big-at-requires-3 : tie.Need-big-at-requires-3
-big-at-requires-3 c κs = search needs
-
-form-refusal-requires : tie.Need-form-refusal-requires
-form-refusal-requires c κs = search needs
-
-plain-requires-2 : tie.Need-plain-requires-2
-plain-requires-2 c κs = search needs
-
-returns-2 : tie.Need-returns-2
-returns-2 c =
     let d = c .before .before in
-    let b = d .before .before .before in
-    let form = rw (b .big-at .ensures, d .before .before .big-at2 .ensures, d .before .big-at3 .ensures) at (d .form-refusal .ensures .0) in
-    c .plain2 .ensures ∙ sym (by-steps _ _ ∙ simp (← form, ne-eqb _ _ (c .before .if2 .taken)))
+    let form = rw (d .before .trailer-of .ensures) at (d .form-refusal .ensures .0) in
+    c .plain .ensures ∙ sym (by-steps _ _ ∙ simp (← form, ne-eqb _ _ (c .before .if1 .taken)))
 
-cast-n : tie.Need-cast-n
-cast-n c = search needs
-
-mul-from : tie.Need-mul-from
-mul-from c = search needs
-
-add-from : tie.Need-add-from
-add-from c = search needs
-
-sub-from : tie.Need-sub-from
-sub-from c =
-    let fits = c .before .form-refusal .ensures .1 (c .if2 .left) in
-    omega arith
-
-mul-to : tie.Need-mul-to
-mul-to c = search needs
-
-add-to : tie.Need-add-to
-add-to c = search needs
-
-sub-big-at-3 : tie.Need-sub-big-at-3
-sub-big-at-3 c = search needs
-
-big-at-requires-4 : tie.Need-big-at-requires-4
-big-at-requires-4 c κs = search needs
+records-range-requires : tie.Need-records-range-requires
+records-range-requires c κs = search needs
 
 sub-records-verdict : tie.Need-sub-records-verdict
-sub-records-verdict c = search needs
+sub-records-verdict c =
+    let image = c .before .before .before .before .before .args .image .now in
+    let r = ranged _ image _ (c .records-range .ensures) (c .before .before .form-refusal .ensures .1 (c .before .if1 .left) .1) in
+    r .ordered
 
 part-records-verdict-start : tie.Need-part-records-verdict-start
-part-records-verdict-start c = search needs
+part-records-verdict-start c =
+    let image = c .before .before .before .before .before .args .image .now in
+    let r = ranged _ image _ (c .records-range .ensures) (c .before .before .form-refusal .ensures .1 (c .before .if1 .left) .1) in
+    omega arith
 
 part-records-verdict-end : tie.Need-part-records-verdict-end
 part-records-verdict-end c =
-    let fits = c .before .before .form-refusal .ensures .1 (c .before .if2 .left) in
-    omega arith
+    let image = c .before .before .before .before .before .args .image .now in
+    let r = ranged _ image _ (c .records-range .ensures) (c .before .before .form-refusal .ensures .1 (c .before .if1 .left) .1) in
+    r .within
+
+cast-records-verdict : tie.Need-cast-records-verdict
+cast-records-verdict c = search needs
 
 records-verdict-requires : tie.Need-records-verdict-requires
 records-verdict-requires c κs =
-    let fits = c .before .before .before .form-refusal .ensures .1 (c .before .before .if2 .left) in
-    (fits .0, omega arith)
+    let d = c .before .before in
+    let fits = d .before .before .form-refusal .ensures .1 (d .before .if1 .left) in
+    (fits .0, ranged _ _ _ (d .records-range .ensures) (fits .1) .size)
 
-returns-3 : tie.Need-returns-3
-returns-3 c =
-    let d = c .before .before .before .before in
-    let b = d .before .before .before in
-    let n = b .big-at .result in
-    let l = length (b .before .before .before .args .image .now) in
-    let long : l - (544 * n + 12) + 544 * n - (l - (544 * n + 12)) ≡ 544 * n = omega arith in
-    let form = rw (b .big-at .ensures, d .before .before .big-at2 .ensures, d .before .big-at3 .ensures) at (d .form-refusal .ensures .0) in
-    let rest = rw (long, b .big-at .ensures, c .before .before .big-at4 .ensures) at (c .records-verdict .ensures) in
-    rest ∙ sym (by-steps _ _ ∙ simp (← form, eq-eqb _ _ (c .before .before .before .if2 .left)))
+returns-2 : tie.Need-returns-2
+returns-2 c =
+    let d = c .before .before .before .before .before in
+    let t = d .before .trailer-of .ensures in
+    let form = rw t at (d .form-refusal .ensures .0) in
+    let part = range-part (c .before .before .before .records-range .result) (d .before .before .before .args .image .now) (rw t at (c .before .before .before .records-range .ensures)) in
+    let rest = rw (part, t) at (c .records-verdict .ensures) in
+    rest ∙ sym (by-steps _ _ ∙ simp (← form, eq-eqb _ _ (c .before .before .before .before .if1 .left)))
 
 pub judge-spec : {M : Type 1} → statement M
 judge-spec =
     tie.close
     (tie.spec
+    trailer-of-requires
+    form-refusal-requires
     plain-requires
     returns
-    sub-big-at
-    big-at-requires
-    sub-big-at-2
-    big-at-requires-2
-    big-at-requires-3
-    form-refusal-requires
-    plain-requires-2
-    returns-2
-    cast-n
-    mul-from
-    add-from
-    sub-from
-    mul-to
-    add-to
-    sub-big-at-3
-    big-at-requires-4
+    records-range-requires
     sub-records-verdict
     part-records-verdict-start
     part-records-verdict-end
+    cast-records-verdict
     records-verdict-requires
-    returns-3)
+    returns-2)

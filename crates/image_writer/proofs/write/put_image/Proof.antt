@@ -3,8 +3,8 @@ use Prim.Native.Nat.{_*_, _-_, _≤_}
 use lib.ListN.{length, take, drop}
 use lib.Seq.{length-take-le}
 use mathlib.Core.Path.{_≡_, sym, ap, _∙_}
-use Rattle.image_format.specs.Image.{trailerSize}
-use Rattle.board.specs.Layout.{recordSize}
+use Rattle.image_format.specs.Image.{imageRecord, trailerSize}
+use Rattle.board.specs.Layout.{functionsMax, recordSize}
 use Rattle.image_writer.proofs.Lists.{copied, image-put, trailer-length}
 use Rattle.image_format.proofs.Lists.{sum-whole}
 use borrow.Author.Needs.{needs}
@@ -12,8 +12,8 @@ use native.Mathlib.Omega.{arith}
 use Rattle.image_writer.proofs.write.put_image.Statement.{statement}
 use Rattle.image_writer.proofs.write.put_image.Tie as tie
 
-mul-n : tie.Need-mul-n
-mul-n c = search needs
+mul-kept : tie.Need-mul-kept
+mul-kept c = search needs
 
 slice-aggregate-copy : tie.Need-slice-aggregate-copy
 slice-aggregate-copy c = sym (length-take-le _ _ (omega (arith, c .before .before .before .pre .1 .0)))
@@ -29,6 +29,9 @@ sum-of-requires c κs = search needs
 
 trailer-requires : tie.Need-trailer-requires
 trailer-requires c κs = search needs
+
+mul-end : tie.Need-mul-end
+mul-end c = search needs
 
 slice-aggregate-copy-2 : tie.Need-slice-aggregate-copy-2
 slice-aggregate-copy-2 c = search needs
@@ -53,7 +56,7 @@ returns c =
     let d = c .before .before .before .before .before .before .before .before .before .before .before .before .before .before .before in
     let n = recordSize * d .args .count in
     let r = d .args .records .now in
-    let few : length (take n r) ≤ 8704 = rw (length-take-le n r (omega (arith, d .pre .1 .0))) (omega (arith, d .pre .0)) in
+    let few : length (take n r) ≤ functionsMax * imageRecord = rw (length-take-le n r (omega (arith, d .pre .1 .0))) (omega (arith, d .pre .0)) in
     let first = c .before .before .before .before .before .before .before .before .before .before .copy .last .1 .0 in
     let t = c .before .before .before .before .before .trailer .result in
     let a = copied (take n r) (d .args .out .now) _ (c .before .before .before .before .before .before .before .before .before .before .copy .ensures .1) in
@@ -66,12 +69,13 @@ pub put-image-spec : {M : Type 1} → statement M
 put-image-spec =
     tie.close
     (tie.spec
-    mul-n
+    mul-kept
     slice-aggregate-copy
     copy-requires
     slice-aggregate-sum-of
     sum-of-requires
     trailer-requires
+    mul-end
     slice-aggregate-copy-2
     sub-copy
     part-copy-start

@@ -4,17 +4,11 @@ use borrow.Author.Needs.{needs}
 use Rattle.image_writer.proofs.write.trailer.Statement.{statement}
 use Rattle.image_writer.proofs.write.trailer.Tie as tie
 
+image-size-requires : tie.Need-image-size-requires
+image-size-requires c κs = search needs
+
 cast-size : tie.Need-cast-size
 cast-size c = search needs
-
-mul-size : tie.Need-mul-size
-mul-size c = search needs
-
-cast-size-2 : tie.Need-cast-size-2
-cast-size-2 c = search needs
-
-add-size : tie.Need-add-size
-add-size c = search needs
 
 byte-of-requires : tie.Need-byte-of-requires
 byte-of-requires c κs = search needs
@@ -48,16 +42,14 @@ byte-of-requires-10 c κs = search needs
 
 returns : tie.Need-returns
 unfolding tableFrom
-returns c = rw (c .byte-of10 .ensures, c .before .byte-of9 .ensures, c .before .before .byte-of8 .ensures, c .before .before .before .byte-of7 .ensures, c .before .before .before .before .byte-of6 .ensures, c .before .before .before .before .before .byte-of5 .ensures, c .before .before .before .before .before .before .byte-of4 .ensures, c .before .before .before .before .before .before .before .byte-of3 .ensures, c .before .before .before .before .before .before .before .before .byte-of2 .ensures, c .before .before .before .before .before .before .before .before .before .byte-of .ensures)
+returns c = rw (c .byte-of10 .ensures, c .before .byte-of9 .ensures, c .before .before .byte-of8 .ensures, c .before .before .before .byte-of7 .ensures, c .before .before .before .before .byte-of6 .ensures, c .before .before .before .before .before .byte-of5 .ensures, c .before .before .before .before .before .before .byte-of4 .ensures, c .before .before .before .before .before .before .before .byte-of3 .ensures, c .before .before .before .before .before .before .before .before .byte-of2 .ensures, c .before .before .before .before .before .before .before .before .before .byte-of .ensures, c .before .before .before .before .before .before .before .before .before .before .image-size .ensures)
 
 pub trailer-spec : {M : Type 1} → statement M
 trailer-spec =
     tie.close
     (tie.spec
+    image-size-requires
     cast-size
-    mul-size
-    cast-size-2
-    add-size
     byte-of-requires
     byte-of-requires-2
     byte-of-requires-3
