@@ -8,10 +8,10 @@
 #include "pci_record.h"
 
 uint64_t bios_part_bytes(uint32_t part);
-uint32_t bios_check_image(const uint8_t *image, size_t length, size_t room, uint32_t *place);
-uint32_t bios_load(const uint8_t *image, size_t length, uint32_t *header, uint8_t *records, uint8_t *registers,
-                   uint64_t *windows, uint32_t *cell_offsets, uint32_t *hooks, uint32_t *used, uint8_t *cells,
-                   size_t cells_length, uint32_t *place);
+int32_t bios_check_image(const uint8_t *image, size_t length, size_t room, uint32_t *place);
+int32_t bios_load(const uint8_t *image, size_t length, uint32_t *header, uint8_t *records, uint8_t *registers,
+                  uint64_t *windows, uint32_t *cell_offsets, uint32_t *hooks, uint32_t *used, uint8_t *cells,
+                  size_t cells_length, uint32_t *place);
 int32_t bios_reset(const uint32_t *header, const uint8_t *records, uint8_t *registers, uint64_t *windows,
                    const uint32_t *cell_offsets, uint32_t *hooks, uint32_t *used, uint8_t *cells, size_t cells_length);
 uint32_t bios_write_image(const uint32_t *header, const uint8_t *records, uint8_t *out, size_t length);
@@ -110,7 +110,7 @@ static const uint8_t *given_const(const uint8_t *bytes, size_t length) {
 
 int32_t pci_check_image(const uint8_t *image, size_t length, uint32_t *place) {
     LENT({image, length}, {place, sizeof *place});
-    return (int32_t)bios_check_image(given_const(image, length), length, SIZE_MAX, place);
+    return bios_check_image(given_const(image, length), length, SIZE_MAX, place);
 }
 
 /* The parts of struct pci_board as the library numbers them; past the last one it gives 0. */
@@ -138,9 +138,9 @@ int32_t pci_load(struct pci_board *board, uint8_t *cells, size_t cells_length, c
     check_layout();
     LENT({board, sizeof *board}, {cells, cells_length}, {image, length}, {place, sizeof *place});
     CALL(board, OP_LOAD, .own = {image, length}, CELLS(cells, cells_length));
-    int32_t number = (int32_t)bios_load(given_const(image, length), length, board->header, board->records,
-                                        board->registers, board->windows, board->cell_offsets, board->hooks,
-                                        board->used, given(cells, cells_length), cells_length, place);
+    int32_t number = bios_load(given_const(image, length), length, board->header, board->records, board->registers,
+                               board->windows, board->cell_offsets, board->hooks, board->used,
+                               given(cells, cells_length), cells_length, place);
     ANSWER(board, number, number != 0, *place);
     return number;
 }

@@ -31,7 +31,7 @@ impl Proved {
         }
     }
 
-    pub fn load(&mut self, image: &Image) -> (u32, u32) {
+    pub fn load(&mut self, image: &Image) -> (i32, u32) {
         let mut place = 0;
         // SAFETY: each pointer is to an array or slice of its type and length, alive and
         // not otherwise used during the call.

@@ -27,7 +27,7 @@ use Rattle.refusals.specs.declared.verdict.Verdict.{Verdict}
 use Rattle.asked_width.specs.declared.width.AskedWidth.{AskedWidth}
 use Rattle.asked_width.specs.declared.width.AskedWidth.the-variants.{Known, Other}
 
-abbrev pub verdict : ℕ → ℕ → Verdict
+abbrev pub verdict : ℤ → ℕ → Verdict
 verdict number place = record { number = number; place = place }
 
 abbrev pub status : ℤ → Status

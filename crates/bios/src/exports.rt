@@ -24,12 +24,12 @@ ghost use Rattle.bios.specs.Exports.{verdict, status, shown, shownWindow
 
 // The number of the first refusal of an image with so many cells, 0 for none; the place of a bad record, else 0, goes to `place`.
 #[no_mangle]
-pub extern "C" fn bios_check_image(image: &[u8], room: usize, place: &mut u32) -> u32
+pub extern "C" fn bios_check_image(image: &[u8], room: usize, place: &mut u32) -> i32
     ensures { λ r. ⌜ verdict r (now (place .exit)) ≡ checked (now (image .entry)) room ⌝ }
 {
     let v = check_image(image, room);
     *place = v.place;
-    v.number as u32
+    v.number
 }
 
 // Loads an image; number and place as above.
@@ -45,7 +45,7 @@ pub extern "C" fn bios_load(
     used: &mut Used,
     cells: &mut [u8],
     place: &mut u32,
-) -> u32
+) -> i32
     ensures { λ r. ⌜ loaded (verdict r (now (place .exit))) (parts (now (header .exit)) (now (records .exit)) (now (registers .exit)) (now (windows .exit)) (now (offsets .exit)) (now (hooks .exit)) (now (used .exit)) (now (cells .exit))) ≡ load (parts (now (header .entry)) (now (records .entry)) (now (registers .entry)) (now (windows .entry)) (now (offsets .entry)) (now (hooks .entry)) (now (used .entry)) (now (cells .entry))) (now (image .entry)) ⌝ }
 {
     let v = load(
@@ -60,7 +60,7 @@ pub extern "C" fn bios_load(
         cells,
     );
     *place = v.place;
-    v.number as u32
+    v.number
 }
 
 // Resets a board.

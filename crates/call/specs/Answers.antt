@@ -1,9 +1,10 @@
 -- Answers as numbers: rules on plain values, which the program's step and the reference machine share.
-use Prim.Native.Nat.{ℕ, zero, suc}
-use mathlib.Core.Bool.{Bool, true, false}
+use Prim.Native.Nat.{ℕ}
+use mathlib.Core.Bool.{Bool, true, false, not}
 use mathlib.Core.List.{List, _∷_, _++_}
 use lib.IntN.{ℤ, pos, negsuc}
 use lib.ListN.{replicate}
+use Rattle.numbers.specs.Numbers.{isZero}
 use Rattle.board.specs.declared.status.Status.{Status}
 use Rattle.board.specs.declared.read.Read.{Read}
 use Rattle.board.specs.declared.read.FastRead.{FastRead}
@@ -15,9 +16,7 @@ use Rattle.call.specs.declared.answer.Answer.{Answer}
 
 -- numbers other than 0 refuse
 abbrev pub refuses : ℤ → Bool
-refuses (pos zero) = false
-refuses (pos (suc n)) = true
-refuses (negsuc n) = true
+refuses z = not (isZero z)
 
 abbrev pub answer : ℤ → List ℕ → Answer
 answer number values = record { number = number; refused = refuses number; values = values }
@@ -35,7 +34,7 @@ one v = v ∷ replicate 5 0
 
 -- a load's number, and the place that it returns
 abbrev pub ofVerdict : Verdict → Answer
-ofVerdict v = answer (pos (v .number)) (one (v .place))
+ofVerdict v = answer (v .number) (one (v .place))
 
 -- a search's number: the handle, or below 0 the refusal
 abbrev pub below : ℤ → Bool

@@ -6,6 +6,7 @@ use card_used::used::CardUsed;
 use chain_listing::listing::ChainListing;
 use conversions::convert::ToBus;
 use conversions::convert::ToCpu;
+use refusals::verdict::Verdict;
 use search::search::Search;
 use window_listing::listing::ListedWindow;
 use window_listing::listing::Listing;
@@ -18,7 +19,7 @@ ghost use Prim.Native.Nat.{_<_};
 ghost use Rattle.window_listing.specs.Listing.{numberOf, valuesOf, spaceNumber, startNumber, lengthNumber};
 ghost use Rattle.search.specs.Search.{foundNumber};
 ghost use Rattle.chain_listing.specs.Listing.{chainNumberOf, chainValuesOf};
-ghost use Rattle.call.specs.Answers.{answer, one, ofStatus, ofSearch, ofRead, ofFastRead, ofToCpu, ofToBus, ofChain, ofUsed};
+ghost use Rattle.call.specs.Answers.{answer, zeros, one, ofStatus, ofVerdict, ofSearch, ofRead, ofFastRead, ofToCpu, ofToBus, ofChain, ofUsed};
 ghost use Rattle.call.specs.Steps.{handleFound};
 
 // The values of an answer; those that it does not have are 0.
@@ -31,14 +32,14 @@ pub struct Answer {
     pub values: Values,
 }
 
-// The answer with the number of a load or of the writer, and one value.
-pub fn of_number(number: u8, value: u32) -> Answer
-    ensures { λ r. ⌜ r ≡ answer (pos number) (one value) ⌝ }
+// The answer with the writer's number.
+pub fn of_number(number: u8) -> Answer
+    ensures { λ r. ⌜ r ≡ answer (pos number) zeros ⌝ }
 {
     Answer {
         number: number as i32,
         refused: number != 0,
-        values: [value as u64, 0, 0, 0, 0, 0],
+        values: [0u64; 6],
     }
 }
 
@@ -65,6 +66,13 @@ pub fn of_status(status: Status) -> Answer
     ensures { λ r. ⌜ r ≡ ofStatus status ⌝ }
 {
     of_value(status, 0)
+}
+
+// The answer of a load: its number, and the place that it returns.
+pub fn of_verdict(verdict: Verdict) -> Answer
+    ensures { λ r. ⌜ r ≡ ofVerdict verdict ⌝ }
+{
+    of_value(Status(verdict.number), verdict.place)
 }
 
 // The answer of a read.

@@ -3,14 +3,10 @@ use Prim.Native.Nat.{ℕ}
 use mathlib.Core.Path.{_≡_, sym}
 use mathlib.Core.List.{List}
 use lib.IntN.{pos}
-use Rattle.numbers.specs.Numbers.{bytes}
 use Rattle.board.specs.Parts.{Parts, withRegisters, withCells, withHooks, withUsed}
 use Rattle.board.specs.declared.address.BusAddress.{BusAddress}
 use Rattle.numbers.specs.declared.number.Width.{Width}
 use Rattle.board.specs.declared.status.Status.{Status}
-use Rattle.config.specs.Write.{wrote, writeConfig}
-use Rattle.access.specs.Data.{writeData, wrote as dataWrote}
-use Rattle.find_window.specs.Find.{spaceNumber}
 use Rattle.find_window.specs.declared.find.Space.{Space}
 use Rattle.resource.specs.Resource.{gave, getResource}
 use Rattle.interrupt.specs.Chain.{Changed, changed}
@@ -24,7 +20,7 @@ use Rattle.call.specs.declared.call.Call.{Call}
 use Rattle.call.specs.declared.call.Call.the-variants.{Load, Reset, WriteImage, Config, Data, GetResource, SetCardUsed, Ask}
 use Rattle.call.specs.declared.call.Query.{Query}
 use Rattle.call.specs.declared.call.Access.{Access}
-use Rattle.call.specs.Answers.{answer, one, ofStatus}
+use Rattle.call.specs.Answers.{answer, zeros, ofStatus, ofVerdict}
 use Rattle.reference.specs.State.{next, step, queried, blanked, configured, configAccess, stored, dataAccess}
 
 -- a query: its answer is made of what its function gives
@@ -37,7 +33,7 @@ unfolding step
 arm-ask p own c q r e a = rw (e, a)
 
 pub arm-load : (p q : Parts) (own : List ℕ) (c : Call) (v : Verdict) (r : Answer) → c ≡ Load
-    → r ≡ answer (pos (v .number)) (one (v .place)) → loaded v q ≡ load p own → next r q own ≡ step p c own
+    → r ≡ ofVerdict v → loaded v q ≡ load p own → next r q own ≡ step p c own
 unfolding step
 arm-load p q own c v r e a l = rw (e, a, ← l)
 
@@ -46,7 +42,7 @@ pub arm-reset : (p q : Parts) (own : List ℕ) (c : Call) (s : Status) (r : Answ
 unfolding step
 arm-reset p q own c s r e a l = rw (e, a, ← l)
 
-pub arm-write : (p : Parts) (own out : List ℕ) (c : Call) (n : ℕ) (r : Answer) → c ≡ WriteImage → r ≡ answer (pos n) (one 0)
+pub arm-write : (p : Parts) (own out : List ℕ) (c : Call) (n : ℕ) (r : Answer) → c ≡ WriteImage → r ≡ answer (pos n) zeros
     → written n out ≡ write (p .header) (p .records) own → next r p out ≡ step p c own
 unfolding step
 arm-write p own out c n r e a w = rw (e, a, ← w)

@@ -12,6 +12,7 @@ use board::layout::Windows;
 use call::answer::Answer;
 use call::answer::of_number;
 use call::answer::of_status;
+use call::answer::of_verdict;
 use call::call::Call;
 use card_used::used::set_card_used;
 use image_writer::write::write_image;
@@ -52,7 +53,7 @@ pub fn perform(
                 used,
                 cells,
             );
-            of_number(v.number, v.place)
+            of_verdict(v)
         }
         Call::Reset => {
             of_status(reset(
@@ -66,7 +67,7 @@ pub fn perform(
                 cells,
             ))
         }
-        Call::WriteImage => of_number(write_image(header, records, own), 0),
+        Call::WriteImage => of_number(write_image(header, records, own)),
         Call::Config {
             width,
             handle,

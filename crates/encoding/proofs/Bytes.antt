@@ -8,7 +8,7 @@ use lib.Dec.{eqb}
 use lib.ListN.{set, replicate}
 use lib.Seq.{sets}
 use borrow.Author.Tests.{eqb-true, eq-eqb}
-use Rattle.numbers.specs.Numbers.{bigBytes}
+use Rattle.numbers.specs.Numbers.{bigBytes, bits}
 use Rattle.numbers.specs.Tables.{tableFrom}
 use Rattle.numbers.proofs.Tests.{both-true}
 use Rattle.encoding.specs.declared.fields.Fields.{Fields}
@@ -17,7 +17,7 @@ use mir.Val.{boolByte}
 use Rattle.call.proofs.Signed.{bool-number}
 use Rattle.call.specs.declared.answer.Answer.{Answer}
 use Rattle.call.specs.declared.call.Call.{Call}
-use Rattle.encoding.specs.Format.{bits, valueBytes, answerBytes, fieldsOf, candidate, headerOf, encoded, fieldsAt, ownLength, sameBytes, decoded}
+use Rattle.encoding.specs.Format.{valueBytes, answerBytes, fieldsOf, candidate, headerOf, encoded, fieldsAt, ownLength, sameBytes, decoded}
 
 pub header-put : (f : Fields) (own : ℕ) {h a b all : List ℕ}
     → h ≡ sets (f .operation ∷ f .width ∷ f .space ∷ f .register ∷ replicate 60 0) 4 (bigBytes 4 (f .handle))

@@ -1,5 +1,4 @@
 -- The laws of the format.
 pub mod Bytes
 pub mod Calls
-pub mod Signed
 pub mod Meaning

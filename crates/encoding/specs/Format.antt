@@ -1,11 +1,10 @@
 -- The header of a call in a script: docs/SCRIPT.md.
-use Prim.Native.Nat.{ℕ, suc, _-_, _%_, _^_}
+use Prim.Native.Nat.{ℕ, _-_}
 use mathlib.Core.Bool.{Bool, true, false, cond, _&&_}
 use mathlib.Core.List.{List, [], _∷_, _++_}
 use lib.Dec.{eqb}
-use lib.IntN.{ℤ, pos, negsuc}
 use lib.ListN.{getD, replicate}
-use Rattle.numbers.specs.Numbers.{byteAt, bytes, big, bigBytes}
+use Rattle.numbers.specs.Numbers.{byteAt, bytes, big, bigBytes, bits}
 use Rattle.board.specs.declared.address.BusAddress.{BusAddress}
 use Rattle.board.specs.declared.address.CpuAddress.{CpuAddress}
 use Rattle.numbers.specs.declared.number.Width.{Width}
@@ -132,11 +131,6 @@ unfoldable pub decoded : List ℕ → Decoded
 decoded l =
     let c = candidate (fieldsAt l) in
     cond (sameBytes (encoded c (ownLength l)) l) (Known c (ownLength l)) Malformed
-
--- a number in two's complement, of which the low 32 bits are written
-abbrev pub bits : ℤ → ℕ
-bits (pos n) = n
-bits (negsuc n) = 2 ^ 32 - suc (n % 2 ^ 32)
 
 -- the low 8 bytes of a value
 abbrev pub valueBytes : Answer → ℕ → List ℕ

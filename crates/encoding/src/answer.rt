@@ -5,20 +5,10 @@ use crate::encode::OWN_LENGTH;
 use crate::put::put_value;
 use call::answer::Answer;
 use numbers::number::Width;
+use numbers::number::bits;
 use numbers::number::put_big;
 ghost use mathlib.Core.Path.{_≡_};
-ghost use Rattle.encoding.specs.Format.{bits, answerBytes};
-
-// The 32 bits of a number, in two's complement.
-fn bits(n: i32) -> u32
-    ensures { λ r. ⌜ r ≡ bits n ⌝ }
-{
-    if n < 0 {
-        let m = -1 - n;
-        return 4294967295 - m as u32;
-    }
-    n as u32
-}
+ghost use Rattle.encoding.specs.Format.{answerBytes};
 
 // The answer of a call whose own buffer has so many bytes.
 pub fn answer_bytes(answer: Answer, own: u32) -> CallHeader

@@ -2,7 +2,7 @@
 use Prim.Native.Nat.{ℕ, _*_, _-_, _<_, _≤_}
 use native.Mathlib.Omega.{arith}
 use mathlib.Core.Bool.{Bool, true, false, not, cond, _||_}
-use mathlib.Core.Path.{_≡_, refl, sym, _∙_}
+use mathlib.Core.Path.{_≡_, refl, sym, _∙_, ap}
 use mathlib.Core.List.{List}
 use lib.Dec.{ltb, eqb}
 use lib.ListN.{length, drop, length-drop}
@@ -11,9 +11,9 @@ use borrow.Author.Tests.{eq-eqb, ne-eqb, le-ltb, ltb-false, eqb-true, eqb-false,
 use Rattle.board.specs.Layout.{functionsMax}
 use Rattle.numbers.proofs.Tests.{either-false}
 use Rattle.image_format.specs.Image.{imageRecord, trailerSize, imageSize, countOf, recordsOf}
-use Rattle.refusals.specs.Refusals.{Facts, imageMax, cellsMax, accepted, refused, badRecord, firstRefusal}
+use Rattle.refusals.specs.Refusals.{Facts, imageMax, cellsMax, accepted, refused, badRecord, isAccepted, firstRefusal}
 use Rattle.refusals.specs.Steps.{formRefusal, recordsVerdict, cellsVerdict}
-use Rattle.image.specs.Check.{factsOf, checked}
+use Rattle.image.specs.Check.{factsOf, judged, checked}
 use Rattle.refusals.specs.declared.verdict.Verdict.{Verdict}
 
 -- the facts of an image that no refusal applies to
@@ -29,25 +29,25 @@ pub record Fine (f : Facts) (room : ℕ) : Type 0 where
   pub total : f .total ≤ cellsMax
   pub fits : f .total ≤ room
 
-passed : (t : Bool) (n : ℕ) (v w : Verdict) → v .number ≡ n → (n ≡ 0 → ⊥) → cond t v w .number ≡ 0 → (t ≡ false) × (w .number ≡ 0)
-passed true n v w h z e = absurd (z (sym h ∙ e))
-passed false n v w h z e = (refl, e)
+passed : (t : Bool) (v w : Verdict) → isAccepted v ≡ false → isAccepted (cond t v w) ≡ true → (t ≡ false) × (isAccepted w ≡ true)
+passed true v w h e = let z : _≡_ {A = ℕ} 0 1 = ap (λ (t : Bool). cond t 1 0) (sym h ∙ e) in absurd (omega arith)
+passed false v w h e = (refl, e)
 
 -- a test that is not met: the numbers are equal
 equal : (a b : ℕ) → not (eqb a b) ≡ false → a ≡ b
 equal a b e = eqb-true a b (not-false (eqb a b) e)
 
-pub fine : (f : Facts) (room : ℕ) → firstRefusal f room .number ≡ 0 → Fine f room
+pub fine : (f : Facts) (room : ℕ) → isAccepted (firstRefusal f room) ≡ true → Fine f room
 unfolding firstRefusal
 fine f room e =
-    let a = passed (ltb (f .length) trailerSize) 1 (refused 1) _ refl (λ z. omega arith) e in
-    let b = passed (not (eqb (f .edition) 1)) 2 (refused 2) _ refl (λ z. omega arith) (a .1) in
-    let c = passed (eqb (f .count) 0 || ltb functionsMax (f .count)) 3 (refused 3) _ refl (λ z. omega arith) (b .1) in
-    let d = passed (not (eqb (f .distance) (imageSize (f .count))) || ltb (f .length) (imageSize (f .count))) 4 (refused 4) _ refl (λ z. omega arith) (c .1) in
-    let g = passed (not (eqb (f .sum) (f .said))) 5 (refused 5) _ refl (λ z. omega arith) (d .1) in
-    let h = passed (ltb (f .bad) (f .count)) 6 (badRecord (f .bad)) _ refl (λ z. omega arith) (g .1) in
-    let i = passed (ltb cellsMax (f .total)) 7 (refused 7) _ refl (λ z. omega arith) (h .1) in
-    let j = passed (ltb room (f .total)) 8 (refused 8) accepted refl (λ z. omega arith) (i .1) in
+    let a = passed (ltb (f .length) trailerSize) (refused 1) _ refl e in
+    let b = passed (not (eqb (f .edition) 1)) (refused 2) _ refl (a .1) in
+    let c = passed (eqb (f .count) 0 || ltb functionsMax (f .count)) (refused 3) _ refl (b .1) in
+    let d = passed (not (eqb (f .distance) (imageSize (f .count))) || ltb (f .length) (imageSize (f .count))) (refused 4) _ refl (c .1) in
+    let g = passed (not (eqb (f .sum) (f .said))) (refused 5) _ refl (d .1) in
+    let h = passed (ltb (f .bad) (f .count)) (badRecord (f .bad)) _ refl (g .1) in
+    let i = passed (ltb cellsMax (f .total)) (refused 7) _ refl (h .1) in
+    let j = passed (ltb room (f .total)) (refused 8) accepted refl (i .1) in
     let p = either-false _ _ (c .0) in
     let q = either-false _ _ (d .0) in
     let n = eqb-false (f .count) 0 (p .0) in
@@ -108,10 +108,15 @@ pub record Accepted (image : List ℕ) (room : ℕ) : Type 0 where
   pub short : length image ≤ imageMax
   pub fine : Fine (factsOf image) room
 
-pub accepted-image : (image : List ℕ) (room : ℕ) → checked image room .number ≡ 0 → Accepted image room
+-- what is accepted was judged so
+pub accepted-judged : (image : List ℕ) (room : ℕ) → isAccepted (checked image room) ≡ true → isAccepted (judged image room) ≡ true
+unfolding checked
+accepted-judged image room e = passed (ltb imageMax (length image)) (refused 1) _ refl e .1
+
+pub accepted-image : (image : List ℕ) (room : ℕ) → isAccepted (checked image room) ≡ true → Accepted image room
 unfolding checked
 accepted-image image room e =
-    let a = passed (ltb imageMax (length image)) 1 (refused 1) _ refl (λ z. omega arith) e in
+    let a = passed (ltb imageMax (length image)) (refused 1) _ refl e in
     record { short = ltb-false imageMax (length image) (a .0); fine = fine (factsOf image) room (a .1) }
 
 pub accepted-passes : (image : List ℕ) (room : ℕ) → Accepted image room → checked image room ≡ accepted

@@ -1,18 +1,19 @@
 -- The image check: document 01, "Load refusals", of an image's bytes.
 use Prim.Native.Nat.{ℕ}
-use mathlib.Core.Bool.{cond}
+use mathlib.Core.Bool.{Bool, cond}
 use mathlib.Core.List.{List}
 use lib.Dec.{ltb}
 use lib.ListN.{length}
 use Rattle.board.specs.Layout.{exponent}
 use Rattle.cells.specs.Cells.{total}
 use Rattle.image_format.specs.Image.{distanceOf, countOf, editionOf, sumOf, recordsOf, recordAt, sum}
+use Rattle.record.specs.Record.{recordOk}
 use Rattle.refusals.specs.Refusals.{Facts, imageMax, refused, firstBad, firstRefusal}
 use Rattle.refusals.specs.declared.verdict.Verdict.{Verdict}
 
--- what an image says of itself, where f i is its record at place i and k i b the length exponent of base register b there
-abbrev pub facts : List ℕ → (ℕ → List ℕ) → (ℕ → ℕ → ℕ) → Facts
-facts image f k =
+-- what an image says of itself, where pass i tells whether its record at place i keeps the rules and k i b is the length exponent of base register b there
+abbrev pub facts : List ℕ → (ℕ → Bool) → (ℕ → ℕ → ℕ) → Facts
+facts image pass k =
     record {
       length = length image;
       edition = editionOf image;
@@ -20,12 +21,13 @@ facts image f k =
       distance = distanceOf image;
       said = sumOf image;
       sum = sum (recordsOf image);
-      bad = firstBad f 0 (countOf image);
+      bad = firstBad pass 0 (countOf image);
       total = total k;
     }
 
+-- the exponents are read as of kept records, which an image's records are as they stand
 abbrev pub factsOf : List ℕ → Facts
-factsOf image = facts image (recordAt (recordsOf image)) (exponent (recordsOf image))
+factsOf image = facts image (λ i. recordOk (recordAt (recordsOf image) i)) (exponent (recordsOf image))
 
 -- the refusals but for the upper length
 abbrev pub judged : List ℕ → ℕ → Verdict

@@ -15,6 +15,7 @@ ghost use lib.ListN.{length};
 ghost use Rattle.board.specs.Layout.{functionsMax, exponent};
 ghost use Rattle.cells.specs.Cells.{total};
 ghost use Rattle.image_format.specs.Image.{imageRecord, recordAt, sum};
+ghost use Rattle.record.specs.Record.{recordOk};
 ghost use Rattle.refusals.specs.Refusals.{firstBad};
 ghost use Rattle.refusals.specs.Steps.{recordsVerdict};
 ghost use Rattle.image.specs.Check.{judged, checked};
@@ -25,7 +26,7 @@ pub const IMAGE: usize = 65536;
 // The first of count records that breaks a rule, count where none does.
 fn first_bad(records: &[u8], count: usize) -> usize
     requires { ⌜ (count ≤ functionsMax) × (length (now records) ≡ imageRecord * count) ⌝ }
-    ensures { λ r. ⌜ r ≡ firstBad (recordAt (now (records .entry))) 0 count ⌝ }
+    ensures { λ r. ⌜ r ≡ firstBad (λ i. recordOk (recordAt (now (records .entry)) i)) 0 count ⌝ }
 {
     let mut i = 0;
     while i < count {
@@ -39,10 +40,10 @@ fn first_bad(records: &[u8], count: usize) -> usize
     i
 }
 
-// Refusals 5 to 8 of count records, with the sum that the trailer says.
+// Refusals 5 to 8 of count records, with the sum that the trailer says. The total is read as of kept records, which an image's records are as they stand.
 fn records_verdict(records: &[u8], count: usize, said: u32, room: usize) -> Verdict
     requires { ⌜ (count ≤ functionsMax) × (length (now records) ≡ imageRecord * count) ⌝ }
-    ensures { λ r. ⌜ r ≡ recordsVerdict (sum (now (records .entry))) said (firstBad (recordAt (now (records .entry))) 0 count) count (total (exponent (now (records .entry)))) room ⌝ }
+    ensures { λ r. ⌜ r ≡ recordsVerdict (sum (now (records .entry))) said (firstBad (λ i. recordOk (recordAt (now (records .entry)) i)) 0 count) count (total (exponent (now (records .entry)))) room ⌝ }
 {
     if sum_of(records) != said {
         return plain(5);
@@ -58,7 +59,7 @@ fn records_verdict(records: &[u8], count: usize, said: u32, room: usize) -> Verd
 }
 
 // All refusals but for the upper length, which an image that comes in portions does not have.
-pub(crate) fn judge(image: &[u8], room: usize) -> Verdict
+pub fn judge(image: &[u8], room: usize) -> Verdict
     ensures { λ r. ⌜ r ≡ judged (now (image .entry)) room ⌝ }
 {
     let t = trailer_of(image);

@@ -4,11 +4,10 @@ use native.Mathlib.Omega.{arith}
 use native.Mathlib.Nat.{mod-eq-of-lt}
 use mathlib.Core.Bool.{Bool, true, false, cond}
 use mathlib.Core.Path.{_≡_, refl, sym, _∙_, ap}
-use mathlib.Core.List.{List, [], _∷_, _++_, append-nil, append-assoc}
-use lib.Dec.{eqb}
+use mathlib.Core.List.{List, [], _++_, append-nil, append-assoc}
 use lib.ListN.{length, take, drop, length-append, drop-of-length-le, take-append-drop}
 use lib.Seq.{take-at, drop-drop}
-use borrow.Author.Tests.{eq-eqb, ne-eqb, le-ltb}
+use borrow.Author.Tests.{ne-eqb, le-ltb}
 use Rattle.numbers.specs.Numbers.{byteAt, bigBytes, big}
 use Rattle.board.specs.Layout.{functionsMax, recordSize, exponent}
 use Rattle.board.specs.Parts.{Parts}
@@ -17,7 +16,7 @@ use Rattle.numbers.proofs.Numbers.{big-below, big-bytes, bytes-big}
 use Rattle.numbers.proofs.Tables.{table-length}
 use Rattle.cells.specs.Cells.{total, offsetsOf}
 use Rattle.image_format.specs.Image.{imageRecord, imageSize, back, distanceOf, countOf, editionOf, sumOf, recordsOf, sum, trailer}
-use Rattle.refusals.specs.Refusals.{accepted}
+use Rattle.refusals.specs.Refusals.{accepted, isAccepted}
 use Rattle.refusals.specs.Steps.{cellsVerdict}
 use Rattle.image.specs.Check.{factsOf, checked}
 use Rattle.reset.specs.Reset.{restarted}
@@ -108,7 +107,7 @@ accepted-again image other room k w =
 -- a load as a function of its verdict, and of the count and the records of its image
 made : Parts → Verdict → ℕ → List ℕ → Loaded
 made q v n r =
-    cond (eqb (v .number) 0)
+    cond (isAccepted v)
     (loaded v (restarted (headerOf n) (padded r) (offsetsOf (exponent (padded r))) (q .cells))) (loaded v q)
 
 load-made : (q : Parts) (image : List ℕ) → load q image ≡ made q (checked image (length (q .cells))) (countOf image) (recordsOf image)
@@ -129,19 +128,19 @@ loads-alike q image other room a b count records =
 -- both ways a load hands back the verdict of the check
 load-verdict : (q : Parts) (image : List ℕ) → load q image .verdict ≡ checked image (length (q .cells))
 unfolding load
-load-verdict q image = both (eqb (checked image (length (q .cells)) .number) 0) (checked image (length (q .cells))) (installed image (q .cells)) q
+load-verdict q image = both (isAccepted (checked image (length (q .cells)))) (checked image (length (q .cells))) (installed image (q .cells)) q
   where
     both : (t : Bool) (v : Verdict) (a b : Parts) → cond t (loaded v a) (loaded v b) .verdict ≡ v
     both true v a b = refl
     both false v a b = refl
 
-load-number : (p : Parts) (image : List ℕ) → load p image .verdict ≡ accepted → checked image (length (p .cells)) .number ≡ 0
-load-number p image e = ap (λ (v : Verdict). v .number) (sym (load-verdict p image) ∙ e)
+load-accepted : (p : Parts) (image : List ℕ) → load p image .verdict ≡ accepted → isAccepted (checked image (length (p .cells))) ≡ true
+load-accepted p image e = ap isAccepted (sym (load-verdict p image) ∙ e)
 
 load-whole : (p : Parts) (image : List ℕ) → load p image .verdict ≡ accepted → load p image ≡ loaded accepted (installed image (p .cells))
 unfolding load
 load-whole p image e =
-    rw (eq-eqb (checked image (length (p .cells)) .number) 0 (load-number p image e), sym (load-verdict p image) ∙ e)
+    rw (load-accepted p image e, sym (load-verdict p image) ∙ e)
 
 load-parts : (p : Parts) (image : List ℕ) → load p image .verdict ≡ accepted → load p image .parts ≡ installed image (p .cells)
 load-parts p image e = ap (λ (w : Loaded). w .parts) (load-whole p image e)
@@ -179,7 +178,7 @@ rewritten-is : (p : Parts) (image out : List ℕ) → load p image .verdict ≡ 
     → rewritten p image out ≡ written 0 (again image)
 unfolding again
 rewritten-is p image out e room =
-    let k = accepted-image image (length (p .cells)) (load-number p image e) in
+    let k = accepted-image image (length (p .cells)) (load-accepted p image e) in
     rw (load-parts p image e, installed-header image (p .cells), installed-records image (p .cells))
     (writes (countOf image) (recordsOf image) out (k .fine .some) (k .fine .few) (records-length image (length (p .cells)) k) room)
 
@@ -193,7 +192,7 @@ pub round-trip : RoundTrip
 round-trip p image out e room =
     let w = rewritten-is p image out e room in
     let cells = length (p .cells) in
-    let k = accepted-image image cells (load-number p image e) in
+    let k = accepted-image image cells (load-accepted p image e) in
     let s = again-says image cells k in
     record {
       number = ap (λ (x : Written). x .number) w;
@@ -250,5 +249,5 @@ again-same image room k size small =
 
 pub written-back : WrittenBack
 written-back p image out e size small room =
-    let k = accepted-image image (length (p .cells)) (load-number p image e) in
+    let k = accepted-image image (length (p .cells)) (load-accepted p image e) in
     ap (λ (x : Written). x .out) (rewritten-is p image out e (room ∙ size)) ∙ again-same image (length (p .cells)) k size small

@@ -2,7 +2,6 @@
 use Prim.Native.Nat.{ℕ, _*_}
 use mathlib.Core.Bool.{cond}
 use mathlib.Core.List.{List}
-use lib.Dec.{eqb}
 use lib.ListN.{length}
 use Rattle.numbers.specs.Tables.{filledUp}
 use Rattle.board.specs.Parts.{Parts}
@@ -11,7 +10,8 @@ use Rattle.board.specs.Layout.{functionsMax, recordSize, exponent}
 use Rattle.cells.specs.Cells.{offsetsOf}
 use Rattle.reset.specs.Reset.{restarted}
 use Rattle.image_format.specs.Image.{countOf, recordsOf}
-use Rattle.image.specs.Check.{checked}
+use Rattle.image.specs.Check.{judged, checked}
+use Rattle.refusals.specs.Refusals.{isAccepted}
 use Rattle.refusals.specs.declared.verdict.Verdict.{Verdict}
 
 -- the loaded records, zeros after the last
@@ -30,8 +30,14 @@ pub record Loaded : Type 0 where
 abbrev pub loaded : Verdict → Parts → Loaded
 loaded v p = record { verdict = v; parts = p }
 
+-- the parts of an image where the verdict accepts it, else as they were
+abbrev pub takenIn : Verdict → Parts → List ℕ → Loaded
+takenIn v p image = cond (isAccepted v) (loaded v (installed image (p .cells))) (loaded v p)
+
 -- a refused load leaves everything as it was
 unfoldable pub load : Parts → List ℕ → Loaded
-load p image =
-    let v = checked image (length (p .cells)) in
-    cond (eqb (v .number) 0) (loaded v (installed image (p .cells))) (loaded v p)
+load p image = takenIn (checked image (length (p .cells))) p image
+
+-- a load without the upper length, for an image that comes in portions
+unfoldable pub loadJudged : Parts → List ℕ → Loaded
+loadJudged p image = takenIn (judged image (length (p .cells))) p image

@@ -8,11 +8,52 @@ use board::layout::Registers;
 use board::layout::Used;
 use board::layout::Windows;
 use image::check::check_image;
+use image::check::judge;
 use refusals::verdict::Verdict;
+use refusals::verdict::is_accepted;
 use reset::reset::reset;
 ghost use mathlib.Core.Path.{_≡_};
+ghost use mathlib.Core.Bool.{true};
+ghost use lib.ListN.{length};
 ghost use Rattle.board.specs.Parts.{parts};
-ghost use Rattle.load.specs.Load.{loaded, load};
+ghost use Rattle.refusals.specs.Refusals.{isAccepted};
+ghost use Rattle.image.specs.Check.{judged};
+ghost use Rattle.load.specs.Load.{loaded, takenIn, load, loadJudged};
+
+// The board of an image that a verdict accepts; else everything stays as it was. It is not public: of a verdict that the image did not earn it would have
+// to try the image again, or its contract to say what becomes of records that do not fit. Calls from outside come by `load` or `load_judged`.
+fn take_in(
+    verdict: Verdict,
+    image: &[u8],
+    header: &mut Header,
+    records: &mut Records,
+    registers: &mut Registers,
+    windows: &mut Windows,
+    offsets: &mut CellOffsets,
+    hooks: &mut Hooks,
+    used: &mut Used,
+    cells: &mut [u8],
+) -> Verdict
+    requires { ⌜ (isAccepted verdict ≡ true → isAccepted (judged (now image) (length (now cells))) ≡ true) ⌝ }
+    ensures { λ r. ⌜ loaded r (parts (now (header .exit)) (now (records .exit)) (now (registers .exit)) (now (windows .exit)) (now (offsets .exit)) (now (hooks .exit)) (now (used .exit)) (now (cells .exit))) ≡ takenIn verdict (parts (now (header .entry)) (now (records .entry)) (now (registers .entry)) (now (windows .entry)) (now (offsets .entry)) (now (hooks .entry)) (now (used .entry)) (now (cells .entry))) (now (image .entry)) ⌝ }
+{
+    if !is_accepted(verdict) {
+        return verdict;
+    }
+    install(image, header, records, offsets);
+    // The check has found the cells to suffice, so the reset is not refused.
+    let _ = reset(
+        header,
+        records,
+        registers,
+        windows,
+        offsets,
+        hooks,
+        used,
+        cells,
+    );
+    verdict
+}
 
 // The board of an image; a refused image leaves everything as it was.
 pub fn load(
@@ -29,12 +70,9 @@ pub fn load(
     ensures { λ r. ⌜ loaded r (parts (now (header .exit)) (now (records .exit)) (now (registers .exit)) (now (windows .exit)) (now (offsets .exit)) (now (hooks .exit)) (now (used .exit)) (now (cells .exit))) ≡ load (parts (now (header .entry)) (now (records .entry)) (now (registers .entry)) (now (windows .entry)) (now (offsets .entry)) (now (hooks .entry)) (now (used .entry)) (now (cells .entry))) (now (image .entry)) ⌝ }
 {
     let verdict = check_image(image, cells.len());
-    if verdict.number != 0 {
-        return verdict;
-    }
-    install(image, header, records, offsets);
-    // The check has found the cells to suffice, so the reset is not refused.
-    let _ = reset(
+    take_in(
+        verdict,
+        image,
         header,
         records,
         registers,
@@ -43,6 +81,34 @@ pub fn load(
         hooks,
         used,
         cells,
-    );
-    verdict
+    )
+}
+
+// The same of an image that may be longer than one that is handed over at once.
+pub fn load_judged(
+    image: &[u8],
+    header: &mut Header,
+    records: &mut Records,
+    registers: &mut Registers,
+    windows: &mut Windows,
+    offsets: &mut CellOffsets,
+    hooks: &mut Hooks,
+    used: &mut Used,
+    cells: &mut [u8],
+) -> Verdict
+    ensures { λ r. ⌜ loaded r (parts (now (header .exit)) (now (records .exit)) (now (registers .exit)) (now (windows .exit)) (now (offsets .exit)) (now (hooks .exit)) (now (used .exit)) (now (cells .exit))) ≡ loadJudged (parts (now (header .entry)) (now (records .entry)) (now (registers .entry)) (now (windows .entry)) (now (offsets .entry)) (now (hooks .entry)) (now (used .entry)) (now (cells .entry))) (now (image .entry)) ⌝ }
+{
+    let verdict = judge(image, cells.len());
+    take_in(
+        verdict,
+        image,
+        header,
+        records,
+        registers,
+        windows,
+        offsets,
+        hooks,
+        used,
+        cells,
+    )
 }

@@ -16,7 +16,7 @@ ghost use Rattle.image_format.specs.Image.{imageSize, countOf, recordsOf};
 ghost use Rattle.load.specs.Load.{padded};
 ghost use Rattle.load.specs.Steps.{Installed};
 
-// The records of an accepted image, zeros after the last.
+// The records of an accepted image, each kept as it stands there; zeros after the last.
 fn copy_records(image: &[u8], count: u32, records: &mut Records)
     requires { ⌜ (count ≡ countOf (now image)) × ((count ≤ functionsMax) × (imageSize count ≤ length (now image))) ⌝ }
     ensures { λ _. ⌜ now (records .exit) ≡ padded (recordsOf (now (image .entry))) ⌝ }

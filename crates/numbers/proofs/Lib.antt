@@ -1,5 +1,6 @@
--- Laws of tests, tables, numbers and stores, once for every width.
+-- Laws of tests, tables, numbers, stores and signed numbers, once for every width.
 pub mod Tests
 pub mod Tables
 pub mod Numbers
 pub mod Stores
+pub mod Signed

@@ -1,8 +1,9 @@
 -- Numbers of w bytes in both byte orders. A byte f i is read modulo 256, so that the laws need no bound on it.
 use Prim.Native.Nat.{ℕ, zero, suc, _+_, _*_, _-_, _/_, _%_, _^_}
-use mathlib.Core.Bool.{Bool, cond}
+use mathlib.Core.Bool.{Bool, true, false, cond}
 use mathlib.Core.List.{List}
 use lib.Dec.{eqb, ltb}
+use lib.IntN.{ℤ, pos, negsuc}
 use lib.ListN.{getD}
 use Rattle.numbers.specs.Tables.{table}
 use Rattle.numbers.specs.declared.number.Width.{Width}
@@ -42,3 +43,14 @@ power k = cond (ltb k 32) (2 ^ k) 0
 -- bit b of a number
 abbrev pub bit : ℕ → ℕ → Bool
 bit b n = eqb (n / 2 ^ b % 2) 1
+
+-- whether a signed number is 0
+abbrev pub isZero : ℤ → Bool
+isZero (pos zero) = true
+isZero (pos (suc n)) = false
+isZero (negsuc n) = false
+
+-- a signed number in two's complement, of which the low 32 bits are taken
+abbrev pub bits : ℤ → ℕ
+bits (pos n) = n
+bits (negsuc n) = 2 ^ 32 - suc (n % 2 ^ 32)

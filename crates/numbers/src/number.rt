@@ -4,7 +4,7 @@ ghost use Prim.Native.Nat.{_+_, _*_, _%_, _^_, _<_, _≤_};
 ghost use lib.Dec.{eqb};
 ghost use lib.ListN.{getD, set};
 ghost use lib.Seq.{sets};
-ghost use Rattle.numbers.specs.Numbers.{byteAt, bytes, little, big, bigBytes, reversed, power};
+ghost use Rattle.numbers.specs.Numbers.{byteAt, bytes, little, big, bigBytes, reversed, power, bits};
 
 // How many bytes an access or a number has: 1, 2 or 4.
 pub enum Width {
@@ -167,4 +167,15 @@ pub fn power(k: u32) -> u64
     ensures { λ r. ⌜ r ≡ power k ⌝ }
 {
     if k < 32 { 1u64 << k } else { 0 }
+}
+
+// The 32 bits of a signed number, in two's complement.
+pub fn bits(n: i32) -> u32
+    ensures { λ r. ⌜ r ≡ bits n ⌝ }
+{
+    if n < 0 {
+        let m = -1 - n;
+        return 4294967295 - m as u32;
+    }
+    n as u32
 }

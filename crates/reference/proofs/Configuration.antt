@@ -23,7 +23,7 @@ use Rattle.call.specs.declared.call.Call.the-variants.{Config}
 use Rattle.call.specs.declared.call.Query.the-variants.{FindPciDevice, FindPciClasscode}
 use Rattle.call.specs.Answers.{ofStatus}
 use Rattle.reference.specs.State.{next, step, queried}
-use Rattle.reference.specs.Reference.{Reference, told, windowsOf, targetOf, registersAfter, withRegistersOf, writeOf, referenceStep, referenceQueried}
+use Rattle.reference.specs.Reference.{Reference, windowsOf, targetOf, registersAfter, withRegistersOf, writeOf, referenceStep, referenceQueried}
 use Rattle.reference.specs.Run.{partsOf}
 use Rattle.reference.proofs.Tests.{ifTarget}
 use Rattle.reference.proofs.Registers.{flat, flat-byte, flat-number, list-kept, written-same}

@@ -13,6 +13,7 @@ use Rattle.numbers.specs.Numbers.{bytes}
 use Rattle.config.specs.Write.{movesWindows}
 use Rattle.find_window.specs.Find.{spaceNumber}
 use Rattle.cells.specs.Cells.{total}
+use Rattle.refusals.specs.Refusals.{isAccepted}
 use Rattle.image_format.specs.Image.{imageSize, sum, trailer}
 use Rattle.image_writer.proofs.Lists.{trailer-length}
 use Rattle.call.specs.declared.call.Call.{Call}
@@ -39,7 +40,7 @@ module _ (b : Reference) (s : Sound b) (own : List ℕ) where
   stays-load : Stays (mayTouch b Load own) b own (referenceStep b Load own)
   unfolding mayTouch referenceStep partsOf
   stays-load =
-      ifTest (Stays (mayTouch b Load own) b own) (eqb (verdict own (length (b .cells)) .number) 0)
+      ifTest (Stays (mayTouch b Load own) b own) (isAccepted (verdict own (length (b .cells))))
       (λ e.
       record {
         header = header-alike _ _;

@@ -2,6 +2,7 @@
 use Prim.Native.Nat.{ℕ, zero, suc, _+_, _*_, _<_, _≤_}
 use native.Mathlib.Omega.{arith}
 use mathlib.Core.Path.{_≡_, refl, sym, _∙_, ap}
+use mathlib.Core.Bool.{Bool}
 use mathlib.Core.List.{List, [], _∷_, _++_}
 use lib.ListN.{length, take, drop, length-append, length-drop, List·getD-append, List·getD-eq-default, take-append-drop}
 use lib.Seq.{getD-append-add, getD-take, getD-drop, drop-drop, length-take-le}
@@ -72,8 +73,8 @@ split-record (suc n) l (suc i) h =
     let e : recordSize * suc i ≡ recordSize + recordSize * i = omega arith in
     rw e (split-record n (drop recordSize l) i (omega arith) ∙ ap (take recordSize) (drop-drop (recordSize * i) recordSize l))
 
--- the first bad record depends on the records that are looked at
-pub bad-same : (f g : ℕ → List ℕ) (i n : ℕ) → ((j : ℕ) → j < i + n → f j ≡ g j) → firstBad f i n ≡ firstBad g i n
+-- the first bad record depends on the places that are tested
+pub bad-same : (f g : ℕ → Bool) (i n : ℕ) → ((j : ℕ) → j < i + n → f j ≡ g j) → firstBad f i n ≡ firstBad g i n
 unfolding firstBad
 bad-same f g i zero e = refl
 bad-same f g i (suc n) e = rw (e i (omega arith), bad-same f g (i + 1) n (λ j h. e j (omega arith)))

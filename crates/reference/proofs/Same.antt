@@ -3,22 +3,22 @@ use Prim.Native.Nat.{ℕ, _+_, _*_, _-_, _/_, _%_, _<_, _≤_}
 use native.Mathlib.Omega.{arith}
 use native.Mathlib.Nat.{min-le-left}
 use mathlib.Core.Bool.{true}
-use mathlib.Core.Path.{_≡_, refl, sym}
-use mathlib.Core.List.{List, [], _∷_}
-use lib.Dec.{eqb}
+use mathlib.Core.Path.{_≡_, refl, sym, ap}
+use mathlib.Core.List.{List, []}
 use lib.ListN.{length, drop, replicate, length-take}
-use borrow.Author.Tests.{eqb-true}
 use Rattle.numbers.specs.Numbers.{byteAt}
 use Rattle.numbers.specs.Tables.{tableFrom}
 use Rattle.board.specs.Handles.{headerOf}
-use Rattle.board.specs.Layout.{functionsMax, bases, windowsMax, recordSize, entriesAt, entrySize, registersEach, hookSize, markSize, exponent}
+use Rattle.board.specs.Layout.{functionsMax, bases, windowsMax, entriesAt, entrySize, registersEach, hookSize, markSize, exponent}
 use Rattle.numbers.proofs.Tables.{table-same}
 use Rattle.hooks.specs.Hooks.{lastLine, numbers, packed}
 use Rattle.card_used.specs.Used.{marksOf}
 use Rattle.cells.specs.Cells.{total, cellsBefore, offsetsOf}
-use Rattle.image_format.specs.Image.{imageSize, countOf, recordsOf, recordAt}
+use Rattle.image_format.specs.Image.{imageRecord, imageSize, countOf, recordsOf, recordAt}
+use Rattle.record.specs.Record.{recordOk}
+use Rattle.refusals.specs.Refusals.{isAccepted}
 use Rattle.image.specs.Check.{factsOf, checked}
-use Rattle.reset.specs.Reset.{registersOf, restarted}
+use Rattle.reset.specs.Reset.{firstRegister, registersOf, restarted}
 use Rattle.load.specs.Load.{padded, installed}
 use Rattle.cells.proofs.Ranges.{offset-at, before-same}
 use Rattle.image.proofs.Accepted.{accepted-image, records-length}
@@ -41,7 +41,7 @@ unfolding tableFrom
 no-marks = refl
 
 module _ (rs : List (List ℕ)) (s : Sized rs) where
-  registers-same : registersOf (padded (joined rs)) ≡ flat (λ i. byteAt (recordOf rs i))
+  registers-same : registersOf (padded (joined rs)) ≡ flat (firstRegister (λ i. byteAt (recordOf rs i)))
   unfolding registersOf
   registers-same =
       table-same 0 0 (functionsMax * registersEach) _ _ (λ j h. kept-byte rs s ((0 + j) / registersEach) ((0 + j) % registersEach) (omega arith))
@@ -51,12 +51,12 @@ module _ (rs : List (List ℕ)) (s : Sized rs) where
       → restarted (headerOf (length rs)) (padded (joined rs)) (offsetsOf (exponentOf rs)) cells ≡ partsOf (fresh rs cells)
   unfolding restarted partsOf
   restart-same cells h =
-      rw (registers-same, list-kept rs s (λ i. byteAt (recordOf rs i)) h, offset-at (exponentOf rs) windowsMax (omega arith), no-hooks, no-marks)
+      rw (registers-same, list-kept rs s (firstRegister (λ i. byteAt (recordOf rs i))) h, offset-at (exponentOf rs) windowsMax (omega arith), no-hooks, no-marks)
 
 -- an image's records are no longer than its count says
-records-few : (image : List ℕ) → length (recordsOf image) ≤ recordSize * countOf image
+records-few : (image : List ℕ) → length (recordsOf image) ≤ imageRecord * countOf image
 records-few image =
-    let n = recordSize * countOf image in
+    let n = imageRecord * countOf image in
     let l = drop (length image - imageSize (countOf image)) image in
     rw (length-take n l) (min-le-left n (length l))
 
@@ -74,7 +74,7 @@ facts-same : (image : List ℕ) → imageFacts image ≡ factsOf image
 facts-same image =
     let n = countOf image in
     rw (
-      bad-same (recordOf (imageRecords image)) (recordAt (recordsOf image)) 0 n (λ j h. split-record n (recordsOf image) j (omega arith)),
+      bad-same (λ i. recordOk (recordOf (imageRecords image) i)) (λ i. recordOk (recordAt (recordsOf image) i)) 0 n (λ j h. ap recordOk (split-record n (recordsOf image) j (omega arith))),
       image-total image,
     )
 
@@ -90,9 +90,9 @@ pub record Whole (image : List ℕ) (room : ℕ) : Type 0 where
   pub bytes : joined (imageRecords image) ≡ recordsOf image
   pub fits : total (exponentOf (imageRecords image)) ≤ room
 
-pub accepted-whole : (image : List ℕ) (room : ℕ) → eqb (verdict image room .number) 0 ≡ true → Whole image room
+pub accepted-whole : (image : List ℕ) (room : ℕ) → isAccepted (verdict image room) ≡ true → Whole image room
 accepted-whole image room e =
-    let a = accepted-image image room (rw (verdict-same image room) (eqb-true (verdict image room .number) 0 e)) in
+    let a = accepted-image image room (rw (verdict-same image room) e) in
     let n = countOf image in
     let l = records-length image room a in
     record {

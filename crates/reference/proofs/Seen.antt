@@ -20,6 +20,7 @@ use Rattle.hooks.specs.Hooks.{Hook, isRouted}
 use Rattle.interrupt.specs.Meaning.{isAmong}
 use Rattle.card_used.specs.Used.{Mark}
 use Rattle.cells.specs.Cells.{total}
+use Rattle.refusals.specs.Refusals.{isAccepted}
 use Rattle.image_format.specs.Image.{imageSize}
 use Rattle.call.specs.declared.answer.Answer.{Answer}
 use Rattle.call.specs.declared.call.Call.{Call}
@@ -55,7 +56,7 @@ module _ {h : ℕ} (b : Reference) (m : List ℕ) (l : Like h b (withCellsOf m b
   seen-load =
       let room = length (b .cells) in
       rw (← l .others .room)
-      (ifBoth (Both h) (eqb (verdict own room .number) 0)
+      (ifBoth (Both h) (isAccepted (verdict own room))
       (λ e. both-told (renewed (imageRecords own) (accepted-whole own room e .few)))
       (λ e. both-told l))
 

@@ -14,6 +14,7 @@ use Rattle.window_list.specs.Kept.{keptList}
 use Rattle.window_list.proofs.KeptArray.{kept-of}
 use Rattle.window_listing.proofs.Answers.{number-is, values-are}
 use Rattle.cells.specs.Cells.{cellsBefore, total, offsetsOf}
+use Rattle.refusals.specs.Refusals.{isAccepted}
 use Rattle.image_format.specs.Image.{imageSize, imageOf}
 use Rattle.reset.specs.Reset.{reset}
 use Rattle.load.specs.Load.{padded, load}
@@ -49,16 +50,16 @@ module _ (b : Reference) (s : Sound b) where
   unfolding step referenceStep load partsOf
   same-load own =
       rw (verdict-same own (length (b .cells)))
-      (ifEither (eqb (verdict own (length (b .cells)) .number) 0)
+      (ifEither (isAccepted (verdict own (length (b .cells))))
       (λ e.
       let w = accepted-whole own (length (b .cells)) e in
-      rw e (record {
+      rw (e, e) (record {
         answer = refl;
         parts = installed-same own (b .cells) w;
         own = refl;
         sound = fresh-sound (imageRecords own) (b .cells) (w .few) (w .sized) (w .fits);
       }))
-      (λ e. rw e (as-told b s)))
+      (λ e. rw (e, e) (as-told b s)))
 
   same-reset : (own : List ℕ) → Simulated b Reset own
   unfolding step referenceStep reset partsOf

@@ -6,7 +6,7 @@ use lib.Dec.{eqb, leb, ltb}
 use lib.IntN.{pos}
 use lib.ListN.{length, getD, take, drop, replicate}
 use Rattle.numbers.specs.Numbers.{byteAt, bytes, big}
-use Rattle.board.specs.Layout.{bases, recordSize, masksAt, entriesAt, entrySize, offsetAt, dmaOffsetAt, baseRegister}
+use Rattle.board.specs.Layout.{bases, masksAt, entriesAt, entrySize, offsetAt, dmaOffsetAt, baseRegister}
 use Rattle.board.specs.Statuses.{successful, funcNotSupported, bufferTooSmall}
 use Rattle.window.specs.Window.{Window}
 use Rattle.window_list.specs.Windows.{listOf}
@@ -33,8 +33,10 @@ use Rattle.interrupt.specs.Meaning.{isAmong, without}
 use Rattle.chain_listing.specs.Listing.{chainNumber, chainValues}
 use Rattle.card_used.specs.Used.{Mark, newMark, usedOf, setChecks}
 use Rattle.cells.specs.Cells.{cellsBefore, total, zeroed}
-use Rattle.image_format.specs.Image.{imageSize, countOf, recordsOf, sum, trailer}
-use Rattle.refusals.specs.Refusals.{Facts, imageMax, refused, firstRefusal}
+use Rattle.image_format.specs.Image.{imageRecord, imageSize, countOf, recordsOf, sum, trailer}
+use Rattle.record.specs.Record.{recordOk}
+use Rattle.reset.specs.Reset.{firstRegister}
+use Rattle.refusals.specs.Refusals.{Facts, imageMax, refused, isAccepted, firstRefusal}
 use Rattle.image.specs.Check.{facts}
 use Rattle.refusals.specs.declared.verdict.Verdict.{Verdict}
 use Rattle.call.specs.declared.answer.Answer.{Answer}
@@ -79,16 +81,16 @@ joined (r ∷ rs) = r ++ joined rs
 
 -- registers copied, the cells that the windows need zeroed, hooks and used marks cleared
 abbrev pub fresh : List (List ℕ) → List ℕ → Reference
-fresh records cells = unused records (λ i. byteAt (recordOf records i)) (zeroed (total (exponentOf records)) cells)
+fresh records cells = unused records (firstRegister (λ i. byteAt (recordOf records i))) (zeroed (total (exponentOf records)) cells)
 
 -- at the start no function
 abbrev pub referenceStart : List ℕ → Reference
 referenceStart cells = unused [] (λ i register. 0) cells
 
--- n records of a list of bytes
+-- n records of an image's bytes
 unfoldable pub split : ℕ → List ℕ → List (List ℕ)
 split zero l = []
-split (suc n) l = take recordSize l ∷ split n (drop recordSize l)
+split (suc n) l = take imageRecord l ∷ split n (drop imageRecord l)
 
 -- the records of an image
 abbrev pub imageRecords : List ℕ → List (List ℕ)
@@ -96,7 +98,7 @@ imageRecords image = split (countOf image) (recordsOf image)
 
 -- the verdict on an image, its records taken one by one
 abbrev pub imageFacts : List ℕ → Facts
-imageFacts image = facts image (recordOf (imageRecords image)) (exponentOf (imageRecords image))
+imageFacts image = facts image (λ i. recordOk (recordOf (imageRecords image) i)) (exponentOf (imageRecords image))
 
 unfoldable pub verdict : List ℕ → ℕ → Verdict
 verdict image room = cond (ltb imageMax (length image)) (refused 1) (firstRefusal (imageFacts image) room)
@@ -231,7 +233,7 @@ referenceQueried b (ListWindow n) = answer (listedNumber (windowsOf b) n) (liste
 unfoldable pub referenceStep : Reference → Call → List ℕ → Told
 referenceStep b Load own =
     let v = verdict own (length (b .cells)) in
-    cond (eqb (v .number) 0) (told (ofVerdict v) (fresh (imageRecords own) (b .cells)) own) (told (ofVerdict v) b own)
+    cond (isAccepted v) (told (ofVerdict v) (fresh (imageRecords own) (b .cells)) own) (told (ofVerdict v) b own)
 referenceStep b Reset own =
     cond (ltb (length (b .cells)) (total (exponentOf (b .records)))) (told (ofStatus bufferTooSmall) b own)
     (told (ofStatus successful) (fresh (b .records) (b .cells)) own)

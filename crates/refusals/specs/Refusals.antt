@@ -1,10 +1,10 @@
 -- What a load refuses: document 01, "Load refusals", as a table over plain values.
 use Prim.Native.Nat.{ℕ, zero, suc, _+_}
-use mathlib.Core.Bool.{not, cond, _||_}
-use mathlib.Core.List.{List}
+use mathlib.Core.Bool.{Bool, not, cond, _||_}
 use lib.Dec.{ltb, eqb}
+use lib.IntN.{pos}
+use Rattle.numbers.specs.Numbers.{isZero}
 use Rattle.board.specs.Layout.{functionsMax}
-use Rattle.record.specs.Record.{recordOk}
 use Rattle.image_format.specs.Image.{trailerSize, imageSize}
 use Rattle.refusals.specs.declared.verdict.Verdict.{Verdict}
 
@@ -16,19 +16,22 @@ abbrev pub cellsMax : ℕ
 cellsMax = 65536
 
 abbrev pub accepted : Verdict
-accepted = record { number = 0; place = 0 }
+accepted = record { number = pos 0; place = 0 }
 
 abbrev pub refused : ℕ → Verdict
-refused number = record { number = number; place = 0 }
+refused number = record { number = pos number; place = 0 }
 
 -- with 6 the place of the record is returned
 abbrev pub badRecord : ℕ → Verdict
-badRecord place = record { number = 6; place = place }
+badRecord place = record { number = pos 6; place = place }
 
--- of the n records f i, f (i + 1) .. the first that breaks a rule; i + n where none does
-unfoldable pub firstBad : (ℕ → List ℕ) → ℕ → ℕ → ℕ
-firstBad f i zero = i
-firstBad f i (suc n) = cond (recordOk (f i)) (firstBad f (i + 1) n) i
+abbrev pub isAccepted : Verdict → Bool
+isAccepted v = isZero (v .number)
+
+-- of the n places i, i + 1 .. the first that does not pass; i + n where all do
+unfoldable pub firstBad : (ℕ → Bool) → ℕ → ℕ → ℕ
+firstBad pass i zero = i
+firstBad pass i (suc n) = cond (pass i) (firstBad pass (i + 1) n) i
 
 -- what the image says of itself: its length, its trailer's numbers, and what its records come to
 pub record Facts : Type 0 where

@@ -6,6 +6,7 @@ ghost use mathlib.Core.Path.{_≡_};
 ghost use Prim.Native.Nat.{_≤_};
 ghost use Rattle.board.specs.Layout.{functionsMax};
 ghost use Rattle.image_format.specs.Image.{imageSize};
+ghost use Rattle.refusals.specs.Refusals.{isAccepted, refused};
 ghost use Rattle.refusals.specs.Steps.{formRefusal, cellsVerdict};
 
 // Bytes of all cells at most.
@@ -13,16 +14,23 @@ pub const CELLS: u32 = 65536;
 
 // The number of the first refusal that applies, 0 for none; with 6 the place of the first bad record, else 0.
 pub struct Verdict {
-    pub number: u8,
+    pub number: i32,
     pub place: u32,
 }
 
-// A verdict that names no record.
+// Whether nothing is refused.
+pub fn is_accepted(verdict: Verdict) -> bool
+    ensures { λ r. ⌜ r ≡ isAccepted verdict ⌝ }
+{
+    verdict.number == 0
+}
+
+// A verdict of document 01's numbers that names no record.
 pub fn plain(number: u8) -> Verdict
-    ensures { λ r. ⌜ r ≡ record { number = number; place = 0 } ⌝ }
+    ensures { λ r. ⌜ r ≡ refused number ⌝ }
 {
     Verdict {
-        number: number,
+        number: number as i32,
         place: 0,
     }
 }

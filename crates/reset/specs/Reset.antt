@@ -13,9 +13,13 @@ use Rattle.window_list.specs.Windows.{windowList}
 use Rattle.window_list.specs.Kept.{keptList}
 use Rattle.cells.specs.Cells.{zeroed}
 
--- the first n registers after a load and after a reset: the reset values of the loaded records
+-- what a load and a reset put into register `at` of the function at place i, where r i at is byte `at` of its record: the reset value
+abbrev pub firstRegister : (ℕ → ℕ → ℕ) → ℕ → ℕ → ℕ
+firstRegister r i at = r i at
+
+-- the first n registers after a load and after a reset
 abbrev pub firstRegisters : List ℕ → ℕ → List ℕ
-firstRegisters records n = table n (λ j. recordByte records (j / registersEach) (j % registersEach))
+firstRegisters records n = table n (λ j. firstRegister (recordByte records) (j / registersEach) (j % registersEach))
 
 -- and all of them
 unfoldable pub registersOf : List ℕ → List ℕ

@@ -16,6 +16,8 @@ use image::check::IMAGE;
 use libc::STDIN_FILENO;
 use libc::STDOUT_FILENO;
 use load::calls::load;
+use numbers::number::bits;
+use refusals::verdict::is_accepted;
 use window_listing::listing::ListedWindow;
 use window_listing::listing::Listing;
 use window_listing::listing::list_window;
@@ -99,9 +101,15 @@ fn list(windows: &Windows) {
     walk(windows, true);
 }
 
-fn refuse(number: u8) {
+fn refuse(number: i32) {
     text(b"refused ");
-    io::print_decimal(STDOUT_FILENO, number as u64);
+    let n = bits(number) as u64;
+    if number < 0 {
+        text(b"-");
+        io::print_decimal(STDOUT_FILENO, 4294967296 - n);
+    } else {
+        io::print_decimal(STDOUT_FILENO, n);
+    }
     text(b"\n");
 }
 
@@ -127,7 +135,7 @@ fn main() {
         &mut used,
         &mut cells,
     );
-    if verdict.number == 0 {
+    if is_accepted(verdict) {
         list(&windows);
     } else {
         refuse(verdict.number);

@@ -146,7 +146,7 @@ impl Answer {
     }
 
     /// An image check's answer: the number and the place.
-    pub fn verdict(number: u32, place: u32) -> Self {
+    pub fn verdict(number: impl Into<i64>, place: u32) -> Self {
         Answer::with_value(number.into(), place)
     }
 

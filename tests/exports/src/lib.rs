@@ -14,7 +14,7 @@ pub type Hooks = [u32; 3 * FUNCTIONS];
 pub type UsedMarks = [u32; 2 * FUNCTIONS];
 
 extern "C" {
-    pub fn bios_check_image(image: *const u8, length: usize, room: usize, place: *mut u32) -> u32;
+    pub fn bios_check_image(image: *const u8, length: usize, room: usize, place: *mut u32) -> i32;
     pub fn bios_load(
         image: *const u8,
         image_length: usize,
@@ -28,7 +28,7 @@ extern "C" {
         cells: *mut u8,
         cells_length: usize,
         place: *mut u32,
-    ) -> u32;
+    ) -> i32;
     pub fn bios_reset(
         header: *const Header,
         records: *const Records,

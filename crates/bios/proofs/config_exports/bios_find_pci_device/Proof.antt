@@ -1,5 +1,5 @@
 -- `bios_find_pci_device`: the number of the answer.
-use Rattle.call.proofs.Signed.{back}
+use Rattle.numbers.proofs.Signed.{back}
 use borrow.Author.Needs.{needs}
 use Rattle.bios.proofs.config_exports.bios_find_pci_device.Statement.{statement}
 use Rattle.bios.proofs.config_exports.bios_find_pci_device.Tie as tie

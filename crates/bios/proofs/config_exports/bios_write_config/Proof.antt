@@ -1,6 +1,6 @@
 -- `bios_write_config`: the write of a known width, or the refusal.
 use mathlib.Core.Path.{sym, _∙_}
-use Rattle.call.proofs.Signed.{back}
+use Rattle.numbers.proofs.Signed.{back}
 use borrow.Author.Needs.{needs}
 use Rattle.bios.proofs.config_exports.bios_write_config.Statement.{statement}
 use Rattle.bios.proofs.config_exports.bios_write_config.Tie as tie

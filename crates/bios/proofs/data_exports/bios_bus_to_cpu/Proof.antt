@@ -1,5 +1,5 @@
 -- `bios_bus_to_cpu`: the status of the conversion, read back.
-use Rattle.call.proofs.Signed.{back}
+use Rattle.numbers.proofs.Signed.{back}
 use borrow.Author.Needs.{needs}
 use Rattle.bios.proofs.data_exports.bios_bus_to_cpu.Statement.{statement}
 use Rattle.bios.proofs.data_exports.bios_bus_to_cpu.Tie as tie

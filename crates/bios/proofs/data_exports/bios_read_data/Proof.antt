@@ -1,5 +1,5 @@
 -- `bios_read_data`: the read that was asked for.
-use Rattle.call.proofs.Signed.{back}
+use Rattle.numbers.proofs.Signed.{back}
 use borrow.Author.Needs.{needs}
 use Rattle.bios.proofs.data_exports.bios_read_data.Statement.{statement}
 use Rattle.bios.proofs.data_exports.bios_read_data.Tie as tie

@@ -1,5 +1,5 @@
 -- `bios_write_data`: the write that was asked for.
-use Rattle.call.proofs.Signed.{back}
+use Rattle.numbers.proofs.Signed.{back}
 use borrow.Author.Needs.{needs}
 use Rattle.bios.proofs.data_exports.bios_write_data.Statement.{statement}
 use Rattle.bios.proofs.data_exports.bios_write_data.Tie as tie

@@ -1,5 +1,5 @@
 -- `bios_reset`: the status of the reset, read back.
-use Rattle.call.proofs.Signed.{back}
+use Rattle.numbers.proofs.Signed.{back}
 use borrow.Author.Needs.{needs}
 use Rattle.bios.proofs.exports.bios_reset.Statement.{statement}
 use Rattle.bios.proofs.exports.bios_reset.Tie as tie

@@ -1,5 +1,5 @@
 -- `bios_list_chain`: the number and the values of the listing.
-use Rattle.call.proofs.Signed.{back}
+use Rattle.numbers.proofs.Signed.{back}
 use Rattle.bios.proofs.Listings.{chain-shown}
 use borrow.Author.Needs.{needs}
 use Rattle.bios.proofs.interrupt_exports.bios_list_chain.Statement.{statement}

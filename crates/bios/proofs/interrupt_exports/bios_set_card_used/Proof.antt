@@ -1,5 +1,5 @@
 -- `bios_set_card_used`: the status of the call, read back.
-use Rattle.call.proofs.Signed.{back}
+use Rattle.numbers.proofs.Signed.{back}
 use borrow.Author.Needs.{needs}
 use Rattle.bios.proofs.interrupt_exports.bios_set_card_used.Statement.{statement}
 use Rattle.bios.proofs.interrupt_exports.bios_set_card_used.Tie as tie

@@ -1,5 +1,5 @@
 -- `bios_unhook_interrupt`: the status of the call, read back.
-use Rattle.call.proofs.Signed.{back}
+use Rattle.numbers.proofs.Signed.{back}
 use borrow.Author.Needs.{needs}
 use Rattle.bios.proofs.interrupt_exports.bios_unhook_interrupt.Statement.{statement}
 use Rattle.bios.proofs.interrupt_exports.bios_unhook_interrupt.Tie as tie

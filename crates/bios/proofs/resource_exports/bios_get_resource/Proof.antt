@@ -1,5 +1,5 @@
 -- `bios_get_resource`: the status of the call, read back.
-use Rattle.call.proofs.Signed.{back}
+use Rattle.numbers.proofs.Signed.{back}
 use borrow.Author.Needs.{needs}
 use Rattle.bios.proofs.resource_exports.bios_get_resource.Statement.{statement}
 use Rattle.bios.proofs.resource_exports.bios_get_resource.Tie as tie

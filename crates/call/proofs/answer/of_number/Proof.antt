@@ -1,13 +1,14 @@
 -- `of_number`: a number of one byte is its own signed reading.
 use Prim.Native.Nat.{_<_}
-use Rattle.call.proofs.Signed.{small, number-refuses}
+use Rattle.numbers.proofs.Signed.{small}
+use Rattle.call.proofs.Signed.{number-refuses}
 use borrow.Author.Needs.{needs}
 use native.Mathlib.Omega.{arith}
 use Rattle.call.proofs.answer.of_number.Statement.{statement}
 use Rattle.call.proofs.answer.of_number.Tie as tie
 
-cast-t3 : tie.Need-cast-t3
-cast-t3 c = search needs
+cast-t2 : tie.Need-cast-t2
+cast-t2 c = search needs
 
 returns : tie.Need-returns
 returns c =
@@ -15,4 +16,4 @@ returns c =
     rw (small (c .args .number) h, number-refuses (c .args .number))
 
 pub of-number-spec : {M : Type 1} → statement M
-of-number-spec = tie.close (tie.spec cast-t3 returns)
+of-number-spec = tie.close (tie.spec cast-t2 returns)

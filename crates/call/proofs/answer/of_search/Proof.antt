@@ -1,5 +1,6 @@
 -- `of_search`: a handle is its own signed reading; the status of a refusal is read back.
-use Rattle.call.proofs.Signed.{small, back, below-is}
+use Rattle.numbers.proofs.Signed.{small, back}
+use Rattle.call.proofs.Signed.{below-is}
 use borrow.Author.Needs.{needs}
 use native.Mathlib.Omega.{arith}
 use Rattle.call.proofs.answer.of_search.Statement.{statement}

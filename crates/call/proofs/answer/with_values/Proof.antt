@@ -1,7 +1,8 @@
 -- `with_values`: the status is read back, and refuses where it is not 0.
 use mir.Syntax.{w32}
 use mir.Val.{SFits}
-use Rattle.call.proofs.Signed.{back, bits-refuse}
+use Rattle.numbers.proofs.Signed.{back}
+use Rattle.call.proofs.Signed.{bits-refuse}
 use Rattle.call.proofs.answer.with_values.Statement.{statement}
 use Rattle.call.proofs.answer.with_values.Tie as tie
 

@@ -3,8 +3,8 @@ use mathlib.Core.Path.{ap, _∙_}
 use native.Mathlib.Omega.{arith}
 use lib.ListN.{length-set}
 use borrow.Author.Needs.{needs}
-use Rattle.call.proofs.Signed.{back}
-use Rattle.encoding.specs.Format.{bits}
+use Rattle.numbers.specs.Numbers.{bits}
+use Rattle.numbers.proofs.Signed.{back}
 use Rattle.encoding.proofs.Bytes.{answer-put}
 use Rattle.encoding.proofs.answer.answer_bytes.Statement.{statement}
 use Rattle.encoding.proofs.answer.answer_bytes.Tie as tie

@@ -13,7 +13,7 @@ use Rattle.image.proofs.check.first_bad.Statement.{statement}
 use Rattle.image.proofs.check.first_bad.Tie as tie
 
 abbrev Inv-loop : tie.InvT-loop
-Inv-loop records count i₀ i = (i ≤ count) × (firstBad (recordAt records) i (count - i) ≡ firstBad (recordAt records) 0 count)
+Inv-loop records count i₀ i = (i ≤ count) × (firstBad (λ j. recordOk (recordAt records j)) i (count - i) ≡ firstBad (λ j. recordOk (recordAt records j)) 0 count)
 
 abbrev μ-loop : tie.MeasureT-loop
 μ-loop records count i₀ i = count - i

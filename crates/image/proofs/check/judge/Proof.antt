@@ -1,7 +1,7 @@
 -- `judge`: the trailer's numbers first; once they pass, the part lent on is the records.
 use mathlib.Core.Path.{sym, _∙_}
 use borrow.Author.Tests.{eq-eqb, ne-eqb}
-use Rattle.image_format.proofs.Ranges.{Ranged, ranged, range-part}
+use Rattle.image_format.proofs.Ranges.{ranged, range-part}
 use Rattle.image.proofs.Accepted.{by-steps}
 use borrow.Author.Needs.{needs}
 use native.Mathlib.Omega.{arith}

@@ -1,15 +1,34 @@
--- A signed number and its 32 bits.
-use Prim.Native.Nat.{suc, _-_, _^_, _<_}
+-- Laws of signed numbers of 32 bits.
+use Prim.Native.Nat.{ℕ, zero, suc, _-_, _<_, _^_}
 use native.Mathlib.Omega.{arith}
 use mathlib.Core.Bool.{true, false, false≢true}
 use mathlib.Core.Path.{_≡_, refl, sym}
+use lib.Dec.{eqb}
 use lib.IntN.{ℤ, pos, negsuc, _-ℤ_}
 use lib.Signed.{mag, ltZ}
-use borrow.Author.Tests.{ltb-true, le-ltb}
+use borrow.Author.Tests.{ne-eqb, lt-ltb, ltb-true, le-ltb}
 use mir.Syntax.{w32}
 use mir.Val.{SFits, toZ, ofZ}
-use Rattle.call.proofs.Signed.{back}
-use Rattle.encoding.specs.Format.{bits}
+use mir.Facts.{toZ-ofZ}
+use Rattle.numbers.specs.Numbers.{isZero, bits}
+
+-- a small number is its own signed reading
+pub small : (n : ℕ) → n < 256 → toZ w32 n ≡ pos n
+small n h = rw (lt-ltb n (2 ^ 31) (omega arith))
+
+pub back : (z : ℤ) → SFits w32 z → toZ w32 (ofZ w32 z) ≡ z
+back z f = toZ-ofZ {w = w32} {z = z} f
+
+-- the test of a number for 0, of the number and of its bits
+pub number-zero : (n : ℕ) → eqb n 0 ≡ isZero (pos n)
+number-zero zero = refl
+number-zero (suc n) = ne-eqb (suc n) 0 (λ e. omega arith)
+
+pub bits-zero : (z : ℤ) → SFits w32 z → eqb (ofZ w32 z) 0 ≡ isZero z
+bits-zero (pos n) f = number-zero n
+bits-zero (negsuc n) f =
+    let h = f .sfits in
+    ne-eqb (2 ^ 32 - suc n) 0 (λ e. omega (arith, h))
 
 -- a number below 0: -1 less it is not, and that is read back as it is
 pub record Below (z : ℤ) : Type 0 where

@@ -1,8 +1,8 @@
 -- `bits`: below 0 by what is missing to all ones.
 use native.Mathlib.Omega.{arith}
-use Rattle.encoding.proofs.Signed.{Below, below, NotBelow, not-below}
-use Rattle.encoding.proofs.answer.bits.Statement.{statement}
-use Rattle.encoding.proofs.answer.bits.Tie as tie
+use Rattle.numbers.proofs.Signed.{Below, below, NotBelow, not-below}
+use Rattle.numbers.proofs.number.bits.Statement.{statement}
+use Rattle.numbers.proofs.number.bits.Tie as tie
 
 low : (c : tie.Then1) → Below (c .before .args .n)
 low c = below (c .before .args .n) (c .before .fits .n) (c .if1 .taken)
