@@ -1,5 +1,5 @@
 -- What is known of an accepted image, and that nothing else is asked of it.
-use Prim.Native.Nat.{ℕ, _*_, _-_, _<_, _≤_}
+use Prim.Native.Nat.{ℕ, zero, suc, _+_, _*_, _-_, _<_, _≤_}
 use native.Mathlib.Omega.{arith}
 use mathlib.Core.Bool.{Bool, true, false, not, cond, _||_}
 use mathlib.Core.Path.{_≡_, refl, sym, _∙_, ap}
@@ -10,8 +10,9 @@ use lib.Seq.{length-take-le}
 use borrow.Author.Tests.{eq-eqb, ne-eqb, le-ltb, ltb-false, eqb-true, eqb-false, not-false}
 use Rattle.board.specs.Layout.{functionsMax}
 use Rattle.numbers.proofs.Tests.{either-false}
-use Rattle.image_format.specs.Image.{imageRecord, trailerSize, imageSize, countOf, recordsOf}
-use Rattle.refusals.specs.Refusals.{Facts, imageMax, cellsMax, accepted, refused, badRecord, isAccepted, firstRefusal}
+use Rattle.image_format.specs.Image.{imageRecord, trailerSize, imageSize, countOf, recordsOf, recordAt}
+use Rattle.record.specs.Record.{recordOk}
+use Rattle.refusals.specs.Refusals.{Facts, imageMax, cellsMax, accepted, refused, badRecord, isAccepted, firstBad, firstRefusal}
 use Rattle.refusals.specs.Steps.{formRefusal, recordsVerdict, cellsVerdict}
 use Rattle.image.specs.Check.{factsOf, judged, checked}
 use Rattle.refusals.specs.declared.verdict.Verdict.{Verdict}
@@ -63,6 +64,19 @@ fine f room e =
       total = ltb-false cellsMax (f .total) (i .0);
       fits = ltb-false room (f .total) (j .0);
     }
+
+-- where no place is found bad, each has passed: the first, and so all
+first-passed : (t : Bool) (i n x : ℕ) → i + suc n ≤ cond t x i → (t ≡ true) × (i + 1 + n ≤ x)
+first-passed true i n x h = (refl, omega arith)
+first-passed false i n x h = absurd (omega arith)
+
+pub all-passed : (pass : ℕ → Bool) (i n : ℕ) → i + n ≤ firstBad pass i n → (d : ℕ) → d < n → pass (i + d) ≡ true
+unfolding firstBad
+all-passed pass i zero h d u = absurd (omega arith)
+all-passed pass i (suc n) h zero u = let e : i + 0 ≡ i = omega arith in rw e (first-passed (pass i) i n _ h .0)
+all-passed pass i (suc n) h (suc d) u =
+    let e : i + suc d ≡ i + 1 + d = omega arith in
+    rw e (all-passed pass (i + 1) n (first-passed (pass i) i n _ h .1) d (omega arith))
 
 -- the table as the code goes through it: the trailer's refusals, then the records'
 pub by-steps : (f : Facts) (room : ℕ)
@@ -133,3 +147,10 @@ pub records-length : (image : List ℕ) (room : ℕ) → Accepted image room →
 records-length image room k =
     let h = k .fine .whole in
     length-take-le (imageRecord * countOf image) (drop (length image - imageSize (countOf image)) image) (rw length-drop (omega arith))
+
+-- and every one keeps the rules
+pub records-ruled : (image : List ℕ) (room : ℕ) → Accepted image room → (i : ℕ) → i < countOf image → recordOk (recordAt (recordsOf image) i) ≡ true
+records-ruled image room k i h =
+    let n : 0 + countOf image ≡ countOf image = omega arith in
+    let e : 0 + i ≡ i = omega arith in
+    rw e at (all-passed (λ j. recordOk (recordAt (recordsOf image) j)) 0 (countOf image) (rw n (k .fine .rules)) i h)

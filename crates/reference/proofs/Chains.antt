@@ -27,7 +27,7 @@ use Rattle.reference.proofs.Registers.{kept-byte}
 use Rattle.reference.proofs.Among.{every-without, packed-without}
 use Rattle.reference.proofs.Lines.{allLines}
 use Rattle.reference.proofs.Chained.{On, Chained, among-lines, without-lines, chained-changed, chained-hook}
-use Rattle.reference.proofs.Sound.{Sound, Same, Simulated, Answered, as-told, handle-same, handle-within}
+use Rattle.reference.proofs.Sound.{Sound, sound-with, Same, Simulated, Answered, as-told, handle-same, handle-within}
 use Rattle.reference.proofs.HookArray.{line-kept, few, hooked-same, room, free-same, hook-lines, chain-same}
 
 module _ (b : Reference) (s : Sound b) where
@@ -49,7 +49,7 @@ module _ (b : Reference) (s : Sound b) where
         answer = refl;
         parts = ap (λ (l : List ℕ). withHooks l (partsOf b)) e;
         own = refl;
-        sound = record { few = s .few; sized = s .sized; fits = s .fits; chained = k };
+        sound = sound-with s (omega arith) k;
       }
 
   -- what a call that changes the hooks leaves, beside what the reference machine says
@@ -60,7 +60,7 @@ module _ (b : Reference) (s : Sound b) where
   unfolding step referenceStep partsOf
   same-hook handle handler parameter own =
       let line = lineFor b handle in
-      let pin-kept : pinOf records handle ≡ pinFor b handle = kept-byte rs (s .sized) (handle - 1) 0x3D (omega arith) in
+      let pin-kept : pinOf records handle ≡ pinFor b handle = kept-byte rs (s .kept .sized) (handle - 1) 0x3D (omega arith) in
       let routed-same : isRouted (pinOf records handle) (lineOf records handle) ≡ isRouted (pinFor b handle) line =
       rw (pin-kept, line-kept b s handle) in
       ifAlike (Changes own) (handle-same b s handle)

@@ -27,12 +27,12 @@ use Rattle.reference.specs.Reference.{Reference, windowsOf, targetOf, re
 use Rattle.reference.specs.Run.{partsOf}
 use Rattle.reference.proofs.Tests.{ifTarget}
 use Rattle.reference.proofs.Registers.{flat, flat-byte, flat-number, list-kept, written-same}
-use Rattle.reference.proofs.Sound.{Sound, Same, Simulated, Answered, as-told, count-same}
+use Rattle.reference.proofs.Sound.{Sound, sound-with, Same, Simulated, Answered, as-told, count-same}
 
 -- the window list, worked out from the lent parts
 list-afresh : (b : Reference) → Sound b → windowList (partsOf b .header) (partsOf b .records) (partsOf b .registers) ≡ windowsOf b
 unfolding partsOf
-list-afresh b s = list-kept (b .records) (s .sized) (b .registers) (s .few)
+list-afresh b s = list-kept (b .records) (s .kept .sized) (b .registers) (s .kept .few)
 
 -- what a write of w registers leaves of a board's lent parts
 abbrev pub left : Reference → ℕ → ℕ → ℕ → Target → Wrote
@@ -48,7 +48,7 @@ module _ (b : Reference) (s : Sound b) where
   same-search m depends index =
       rw (
         matching-same (λ i. m (registerByte (flat (b .registers)) i)) (λ i. m (b .registers i)) 0 (length (b .records))
-            (λ i h. depends (registerByte (flat (b .registers)) i) (b .registers i) (λ at l. flat-byte (b .registers) i at (omega (arith, s .few)) l)),
+            (λ i h. depends (registerByte (flat (b .registers)) i) (b .registers i) (λ at l. flat-byte (b .registers) i at (omega (arith, s .kept .few)) l)),
         search-number,
       )
 
@@ -73,7 +73,7 @@ module _ (b : Reference) (s : Sound b) where
   reads : (w handle register : ℕ) → Reads w register (targetOf b w handle register)
   reads w handle register =
       ifTarget (Reads w register) (length (b .records)) w handle register
-      (λ i h e k. let n = flat-number (b .registers) w i register (omega (arith, s .few)) k in (rw n, rw n)) (refl, refl) (refl, refl)
+      (λ i h e k. let n = flat-number (b .registers) w i register (omega (arith, s .kept .few)) k in (rw n, rw n)) (refl, refl) (refl, refl)
 
   pub same-read : (width : Width) (handle register : ℕ) (own : List ℕ) → Simulated b (Config width handle register Read) own
   unfolding step referenceStep partsOf
@@ -108,8 +108,8 @@ module _ (b : Reference) (s : Sound b) where
       ifTarget (Writes w register value own) (length (b .records)) w handle register
       (λ i h e k.
       let c = withRegistersOf (registersAfter b w i register value) b in
-      let d : Sound c = record { few = s .few; sized = s .sized; fits = s .fits; chained = s .chained } in
-      rw (written-same b (s .sized) w i register value (omega (arith, s .few)) k, list-afresh c d) (as-told c d))
+      let d : Sound c = sound-with s (omega arith) (s .chained) in
+      rw (written-same b (s .kept .sized) w i register value (omega (arith, s .kept .few)) k, list-afresh c d) (as-told c d))
       (rw (list-afresh b s) (as-told b s)) (rw (list-afresh b s) (as-told b s))
 
   -- and with any list that is the one worked out anew

@@ -32,7 +32,7 @@ use Rattle.reference.specs.Reference.{Reference, entryOf, exponentOf, jo
 use Rattle.reference.specs.Run.{partsOf}
 use Rattle.reference.proofs.Tests.{ifBoth, ifAt}
 use Rattle.reference.proofs.Registers.{kept-byte, kept-number}
-use Rattle.reference.proofs.Sound.{Sound, Simulated, Answered, as-told, count-same}
+use Rattle.reference.proofs.Sound.{Sound, sound-with, Simulated, Answered, as-told, count-same}
 use Rattle.reference.proofs.InSlot.{in-window}
 
 -- a search asks only base registers below 6 whether they offer the width
@@ -52,9 +52,9 @@ module _ (b : Reference) (s : Sound b) where
       rw (
         count-same b s,
         offset-at (exponentOf (b .records)) windowsMax (omega arith),
-        kept-of (length (b .records)) (exponentOf (b .records)) (b .registers) (s .few),
+        kept-of (length (b .records)) (exponentOf (b .records)) (b .registers) (s .kept .few),
         in-list-same (λ c. offers w (widths (padded (joined (b .records))) (handle - 1) c)) (λ c. offers w (entryOf (b .records) (handle - 1) c 2)) space
-            handle address (λ c h. rw (kept-byte (b .records) (s .sized) (handle - 1) (entriesAt + entrySize * c + 2) (omega arith))) (windowsOf b),
+            handle address (λ c h. rw (kept-byte (b .records) (s .kept .sized) (handle - 1) (entriesAt + entrySize * c + 2) (omega arith))) (windowsOf b),
       )
 
   -- a window that is found has its cells in the buffer
@@ -67,10 +67,10 @@ module _ (b : Reference) (s : Sound b) where
       let k = exponentOf (b .records) in
       let v = in-window b width space handle address base distance remaining e in
       let n = bases * (handle - 1) + base in
-      let there : n < windowsMax = omega (arith, v .low, v .high, v .six, s .few) in
+      let there : n < windowsMax = omega (arith, v .low, v .high, v .six, s .kept .few) in
       let o = entryOf (b .records) (handle - 1) base 1 in
       rw (
-        kept-byte (b .records) (s .sized) (handle - 1) (entriesAt + entrySize * base + 1) (omega (arith, v .six)),
+        kept-byte (b .records) (s .kept .sized) (handle - 1) (entriesAt + entrySize * base + 1) (omega (arith, v .six)),
         le-ltb (length (b .cells)) (getD (offsetsOf k) n 0 + placed o (bytes width) distance + bytes width)
             (omega (arith, v .inside o, cell-ranges k .apart n windowsMax there (omega arith), cell-ranges k .last, s .fits)),
         offset-at k n (omega arith),
@@ -104,13 +104,13 @@ module _ (b : Reference) (s : Sound b) where
       rw (place-same width _ handle (address .0))
       (ifAt (placeFor b (bytes width) (spaceNumber space) handle (address .0))
       (λ at order e.
-      rw e (as-told _ (record { few = s .few; sized = s .sized; fits = simp length-sets (s .fits); chained = s .chained })))
+      rw e (as-told _ (sound-with s (simp length-sets (omega arith)) (s .chained))))
       (λ r e. rw e (as-told b s)))
 
   pub same-bus-to-cpu : (handle : ℕ) (address : BusAddress) → Answered b (BusToCpu handle address)
   unfolding queried referenceQueried partsOf
-  same-bus-to-cpu handle address = rw (count-same b s, kept-number (b .records) (s .sized) (handle - 1) offsetAt (omega arith))
+  same-bus-to-cpu handle address = rw (count-same b s, kept-number (b .records) (s .kept .sized) (handle - 1) offsetAt (omega arith))
 
   pub same-cpu-to-bus : (handle : ℕ) (address : CpuAddress) → Answered b (CpuToBus handle address)
   unfolding queried referenceQueried partsOf
-  same-cpu-to-bus handle address = rw (count-same b s, kept-number (b .records) (s .sized) (handle - 1) offsetAt (omega arith))
+  same-cpu-to-bus handle address = rw (count-same b s, kept-number (b .records) (s .kept .sized) (handle - 1) offsetAt (omega arith))

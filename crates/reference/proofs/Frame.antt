@@ -77,7 +77,7 @@ module _ (b : Reference) (s : Sound b) (own : List ℕ) where
   image-length =
       let j = joined (b .records) in
       length-append j (trailer (length (b .records)) (sum j))
-      ∙ rw (joined-length (b .records) (s .sized), trailer-length (length (b .records)) (sum j))
+      ∙ rw (joined-length (b .records) (s .kept .sized), trailer-length (length (b .records)) (sum j))
 
   stays-write : Stays (mayTouch b WriteImage own) b own (referenceStep b WriteImage own)
   unfolding mayTouch referenceStep partsOf

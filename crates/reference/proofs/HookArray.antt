@@ -36,7 +36,7 @@ module _ (b : Reference) (s : Sound b) where
   chains = b .chains
 
   pub line-kept : (handle : ℕ) → lineOf records handle ≡ loadedLine rs handle
-  line-kept handle = kept-byte rs (s .sized) (handle - 1) 0x3C (omega arith)
+  line-kept handle = kept-byte rs (s .kept .sized) (handle - 1) 0x3C (omega arith)
 
   -- what every hook on a line has, the hooks of some lines have
   of-each : (P : Hook → Type 0) (line : ℕ) → ((h : Hook) → On rs line h → P h) → Every P (chains line)
@@ -51,7 +51,7 @@ module _ (b : Reference) (s : Sound b) where
 
   -- the hooks are no more than the array holds
   pub few : length (allLines chains) ≤ functionsMax
-  few = omega (arith, s .few, few-hooks rs chains (s .chained))
+  few = omega (arith, s .kept .few, few-hooks rs chains (s .chained))
 
   pub hooked-same : (handle : ℕ) → 0 < handle → isHooked (packed (allLines chains)) handle ≡ isAmong handle (chains (loadedLine rs handle))
   hooked-same handle low = packed-hooked (allLines chains) handle few (λ z. omega arith) ∙ among-lines rs chains (s .chained) handle
@@ -59,7 +59,7 @@ module _ (b : Reference) (s : Sound b) where
   -- where a function is not hooked there is room
   pub room : (handle : ℕ) → 0 < handle → handle ≤ length rs → isAmong handle (chains (loadedLine rs handle)) ≡ false → length (allLines chains) < functionsMax
   room handle low high e =
-      omega (arith, s .few, free-room (length rs) (allLines chains) handle (once-lines rs chains (s .chained) (lastLine + 1)) (within-lines rs chains (s .chained)) low high (among-lines rs chains (s .chained) handle ∙ e))
+      omega (arith, s .kept .few, free-room (length rs) (allLines chains) handle (once-lines rs chains (s .chained) (lastLine + 1)) (within-lines rs chains (s .chained)) low high (among-lines rs chains (s .chained) handle ∙ e))
 
   pub free-same : (handle : ℕ) → 0 < handle → handle ≤ length rs
       → isFree (packed (allLines chains)) handle ≡ not (isAmong handle (chains (loadedLine rs handle)))

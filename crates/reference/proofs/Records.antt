@@ -2,20 +2,29 @@
 use Prim.Native.Nat.{ℕ, zero, suc, _+_, _*_, _<_, _≤_}
 use native.Mathlib.Omega.{arith}
 use mathlib.Core.Path.{_≡_, refl, sym, _∙_, ap}
-use mathlib.Core.Bool.{Bool}
+use mathlib.Core.Bool.{Bool, true}
 use mathlib.Core.List.{List, [], _∷_, _++_}
 use lib.ListN.{length, take, drop, length-append, length-drop, List·getD-append, List·getD-eq-default, take-append-drop}
 use lib.Seq.{getD-append-add, getD-take, getD-drop, drop-drop, length-take-le}
 use Rattle.numbers.specs.Numbers.{byteAt}
-use Rattle.board.specs.Layout.{recordSize, recordByte}
-use Rattle.image_format.specs.Image.{recordAt}
-use Rattle.refusals.specs.Refusals.{firstBad}
-use Rattle.reference.specs.Reference.{recordOf, joined, split}
+use Rattle.board.specs.Layout.{functionsMax, recordSize, recordByte}
+use Rattle.record.specs.Record.{recordOk}
+use Rattle.cells.specs.Cells.{total}
+use Rattle.image_format.specs.Image.{imageRecord, recordAt}
+use Rattle.refusals.specs.Refusals.{cellsMax, firstBad}
+use Rattle.reference.specs.Reference.{recordOf, exponentOf, joined, split}
 
 -- every record has all its bytes
 abbrev pub Sized : List (List ℕ) → Type 0
 Sized [] = Unit {0}
 Sized (r ∷ rs) = (length r ≡ recordSize) × Sized rs
+
+-- the records of an accepted image: what holds of them, whatever is done to the board
+pub record Ruled (rs : List (List ℕ)) : Type 0 where
+  pub few : length rs ≤ functionsMax
+  pub sized : Sized rs
+  pub ruled : (i : ℕ) → i < length rs → recordOk (recordOf rs i) ≡ true
+  pub small : total (exponentOf rs) ≤ cellsMax
 
 pub joined-length : (rs : List (List ℕ)) → Sized rs → length (joined rs) ≡ recordSize * length rs
 unfolding joined
@@ -36,15 +45,15 @@ joined-byte (r ∷ rs) s (suc i) at h =
 pub split-length : (n : ℕ) (l : List ℕ) → length (split n l) ≡ n
 unfolding split
 split-length zero l = refl
-split-length (suc n) l = ap suc (split-length n (drop recordSize l))
+split-length (suc n) l = ap suc (split-length n (drop imageRecord l))
 
-pub split-sized : (n : ℕ) (l : List ℕ) → recordSize * n ≤ length l → Sized (split n l)
+pub split-sized : (n : ℕ) (l : List ℕ) → imageRecord * n ≤ length l → Sized (split n l)
 unfolding split
 split-sized zero l h = tt
 split-sized (suc n) l h =
-    (length-take-le recordSize l (omega arith), split-sized n (drop recordSize l) (rw (length-drop recordSize l) (omega arith)))
+    (length-take-le imageRecord l (omega arith), split-sized n (drop imageRecord l) (rw (length-drop imageRecord l) (omega arith)))
 
-pub split-joined : (n : ℕ) (l : List ℕ) → length l ≡ recordSize * n → joined (split n l) ≡ l
+pub split-joined : (n : ℕ) (l : List ℕ) → length l ≡ imageRecord * n → joined (split n l) ≡ l
 unfolding split joined
 split-joined zero l h = empty l h
   where
@@ -52,26 +61,26 @@ split-joined zero l h = empty l h
     empty [] e = refl
     empty (x ∷ m) e = absurd (omega arith)
 split-joined (suc n) l h =
-    ap (λ (m : List ℕ). take recordSize l ++ m) (split-joined n (drop recordSize l) (length-drop recordSize l ∙ omega arith))
-    ∙ take-append-drop recordSize l
+    ap (λ (m : List ℕ). take imageRecord l ++ m) (split-joined n (drop imageRecord l) (length-drop imageRecord l ∙ omega arith))
+    ∙ take-append-drop imageRecord l
 
-pub split-byte : (n : ℕ) (l : List ℕ) (i at : ℕ) → length l ≤ recordSize * n → at < recordSize → byteAt (recordOf (split n l) i) at ≡ recordByte l i at
+pub split-byte : (n : ℕ) (l : List ℕ) (i at : ℕ) → length l ≤ imageRecord * n → at < imageRecord → byteAt (recordOf (split n l) i) at ≡ recordByte l i at
 unfolding split
 split-byte zero l i at h a = sym (List·getD-eq-default l 0 (omega arith))
 split-byte (suc n) l zero at h a =
-    let e : recordSize * 0 + at ≡ at = omega arith in
-    rw e (getD-take recordSize l at 0 a)
+    let e : imageRecord * 0 + at ≡ at = omega arith in
+    rw e (getD-take imageRecord l at 0 a)
 split-byte (suc n) l (suc i) at h a =
-    let e : recordSize * suc i + at ≡ recordSize + (recordSize * i + at) = omega arith in
-    rw e (split-byte n (drop recordSize l) i at (rw (length-drop recordSize l) (omega arith)) a ∙ getD-drop recordSize l (recordSize * i + at) 0)
+    let e : imageRecord * suc i + at ≡ imageRecord + (imageRecord * i + at) = omega arith in
+    rw e (split-byte n (drop imageRecord l) i at (rw (length-drop imageRecord l) (omega arith)) a ∙ getD-drop imageRecord l (imageRecord * i + at) 0)
 
 pub split-record : (n : ℕ) (l : List ℕ) (i : ℕ) → i < n → recordOf (split n l) i ≡ recordAt l i
 unfolding split
 split-record zero l i h = absurd (omega arith)
 split-record (suc n) l zero h = refl
 split-record (suc n) l (suc i) h =
-    let e : recordSize * suc i ≡ recordSize + recordSize * i = omega arith in
-    rw e (split-record n (drop recordSize l) i (omega arith) ∙ ap (take recordSize) (drop-drop (recordSize * i) recordSize l))
+    let e : imageRecord * suc i ≡ imageRecord + imageRecord * i = omega arith in
+    rw e (split-record n (drop imageRecord l) i (omega arith) ∙ ap (take imageRecord) (drop-drop (imageRecord * i) imageRecord l))
 
 -- the first bad record depends on the places that are tested
 pub bad-same : (f g : ℕ → Bool) (i n : ℕ) → ((j : ℕ) → j < i + n → f j ≡ g j) → firstBad f i n ≡ firstBad g i n

@@ -75,13 +75,13 @@ module _ (b : Reference) (s : Sound b) where
       let rs = b .records in
       record {
         handle = refl;
-        windows = kept-of (length rs) (exponentOf rs) (b .registers) (s .few);
-        exponent = λ c h. kept-exponent rs (s .sized) i c h;
-        order = λ c h. kept-byte rs (s .sized) i (entriesAt + entrySize * c + 1) (omega arith);
-        widths = λ c h. kept-byte rs (s .sized) i (entriesAt + entrySize * c + 2) (omega arith);
-        register = λ c h. flat-number (b .registers) 4 i (0x10 + 4 * c) (omega (arith, s .few, k .0, k .1)) (omega arith);
-        offset = kept-number rs (s .sized) i offsetAt (omega arith);
-        dmaOffset = kept-number rs (s .sized) i dmaOffsetAt (omega arith);
+        windows = kept-of (length rs) (exponentOf rs) (b .registers) (s .kept .few);
+        exponent = λ c h. kept-exponent rs (s .kept .sized) i c h;
+        order = λ c h. kept-byte rs (s .kept .sized) i (entriesAt + entrySize * c + 1) (omega arith);
+        widths = λ c h. kept-byte rs (s .kept .sized) i (entriesAt + entrySize * c + 2) (omega arith);
+        register = λ c h. flat-number (b .registers) 4 i (0x10 + 4 * c) (omega (arith, s .kept .few, k .0, k .1)) (omega arith);
+        offset = kept-number rs (s .kept .sized) i offsetAt (omega arith);
+        dmaOffset = kept-number rs (s .kept .sized) i dmaOffsetAt (omega arith);
       }
 
   abbrev kept : ℕ → Source

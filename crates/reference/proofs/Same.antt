@@ -21,10 +21,10 @@ use Rattle.image.specs.Check.{factsOf, checked}
 use Rattle.reset.specs.Reset.{firstRegister, registersOf, restarted}
 use Rattle.load.specs.Load.{padded, installed}
 use Rattle.cells.proofs.Ranges.{offset-at, before-same}
-use Rattle.image.proofs.Accepted.{accepted-image, records-length}
+use Rattle.image.proofs.Accepted.{accepted-image, records-length, records-ruled}
 use Rattle.reference.specs.Reference.{recordOf, exponentOf, joined, fresh, imageRecords, imageFacts, verdict}
 use Rattle.reference.specs.Run.{lineByLine, partsOf}
-use Rattle.reference.proofs.Records.{Sized, split-length, split-sized, split-joined, split-byte, split-record, bad-same}
+use Rattle.reference.proofs.Records.{Sized, Ruled, split-length, split-sized, split-joined, split-byte, split-record, bad-same}
 use Rattle.reference.proofs.Registers.{flat, kept-byte, kept-exponent, list-kept}
 
 -- the exponents of all slots are read alike
@@ -85,8 +85,7 @@ verdict-same image room = rw (facts-same image)
 
 -- the records, one by one, of an image that the reference machine accepts with so many cells lent
 pub record Whole (image : List ℕ) (room : ℕ) : Type 0 where
-  pub few : length (imageRecords image) ≤ functionsMax
-  pub sized : Sized (imageRecords image)
+  pub kept : Ruled (imageRecords image)
   pub bytes : joined (imageRecords image) ≡ recordsOf image
   pub fits : total (exponentOf (imageRecords image)) ≤ room
 
@@ -96,8 +95,14 @@ accepted-whole image room e =
     let n = countOf image in
     let l = records-length image room a in
     record {
-      few = rw (split-length n (recordsOf image)) (a .fine .few);
-      sized = split-sized n (recordsOf image) (omega (arith, l));
+      kept = record {
+        few = rw (split-length n (recordsOf image)) (a .fine .few);
+        sized = split-sized n (recordsOf image) (omega (arith, l));
+        ruled = λ i h.
+            let k : i < n = rw (split-length n (recordsOf image)) at h in
+            rw (split-record n (recordsOf image) i k) (records-ruled image room a i k);
+        small = rw (image-total image) (a .fine .total);
+      };
       bytes = split-joined n (recordsOf image) l;
       fits = rw (image-total image) (a .fine .fits);
     }
@@ -109,4 +114,4 @@ installed-as image cells rs n l s f =
 
 pub installed-same : (image cells : List ℕ) → Whole image (length cells) → installed image cells ≡ partsOf (fresh (imageRecords image) cells)
 installed-same image cells w =
-    installed-as image cells (imageRecords image) (sym (split-length (countOf image) (recordsOf image))) (sym (w .bytes)) (w .sized) (w .few)
+    installed-as image cells (imageRecords image) (sym (split-length (countOf image) (recordsOf image))) (sym (w .bytes)) (w .kept .sized) (w .kept .few)

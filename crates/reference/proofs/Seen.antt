@@ -57,7 +57,7 @@ module _ {h : ℕ} (b : Reference) (m : List ℕ) (l : Like h b (withCellsOf m b
       let room = length (b .cells) in
       rw (← l .others .room)
       (ifBoth (Both h) (isAccepted (verdict own room))
-      (λ e. both-told (renewed (imageRecords own) (accepted-whole own room e .few)))
+      (λ e. both-told (renewed (imageRecords own) (accepted-whole own room e .kept .few)))
       (λ e. both-told l))
 
   seen-reset : Seen Reset

@@ -30,10 +30,10 @@ use Rattle.reference.specs.State.{step, queried}
 use Rattle.reference.specs.Reference.{Reference, exponentOf, joined, fresh, imageRecords, windowsOf, imageBytes, verdict, blankedOf, referenceStep, referenceQueried, referenceStart}
 use Rattle.reference.specs.Run.{partsOf, start}
 use Rattle.reference.proofs.Tests.{ifEither}
-use Rattle.reference.proofs.Records.{Sized, joined-length}
+use Rattle.reference.proofs.Records.{Ruled, joined-length}
 use Rattle.reference.proofs.Same.{verdict-same, accepted-whole, installed-same, restart-same, no-hooks, no-marks}
 use Rattle.reference.proofs.Chained.{no-chains}
-use Rattle.reference.proofs.Sound.{Sound, Simulated, Answered, as-told, answered, count-same}
+use Rattle.reference.proofs.Sound.{Sound, sound-with, Simulated, Answered, as-told, answered, count-same}
 use Rattle.reference.proofs.Configuration.{same-device, same-class, same-read, same-fast-read, same-write-config}
 use Rattle.reference.proofs.Data.{same-read-data, same-fast-read-data, same-write-data, same-bus-to-cpu, same-cpu-to-bus}
 use Rattle.reference.proofs.Resource.{same-resource}
@@ -41,9 +41,9 @@ use Rattle.reference.proofs.Chains.{same-hook, same-unhook, same-list-c
 use Rattle.reference.proofs.Used.{same-get-used, same-set-used}
 
 -- a fresh board is sound
-fresh-sound : (rs : List (List ℕ)) (cells : List ℕ) → length rs ≤ functionsMax → Sized rs → total (exponentOf rs) ≤ length cells → Sound (fresh rs cells)
-fresh-sound rs cells f s h =
-    record { few = f; sized = s; fits = rw (zeroed-length (total (exponentOf rs)) cells h) h; chained = no-chains rs }
+fresh-sound : (rs : List (List ℕ)) (cells : List ℕ) → Ruled rs → total (exponentOf rs) ≤ length cells → Sound (fresh rs cells)
+fresh-sound rs cells k h =
+    record { kept = k; fits = rw (zeroed-length (total (exponentOf rs)) cells h) h; chained = no-chains rs }
 
 module _ (b : Reference) (s : Sound b) where
   same-load : (own : List ℕ) → Simulated b Load own
@@ -57,7 +57,7 @@ module _ (b : Reference) (s : Sound b) where
         answer = refl;
         parts = installed-same own (b .cells) w;
         own = refl;
-        sound = fresh-sound (imageRecords own) (b .cells) (w .few) (w .sized) (w .fits);
+        sound = fresh-sound (imageRecords own) (b .cells) (w .kept) (w .fits);
       }))
       (λ e. rw (e, e) (as-told b s)))
 
@@ -69,15 +69,15 @@ module _ (b : Reference) (s : Sound b) where
       (λ e. rw e (as-told b s))
       (λ e. rw e (record {
         answer = refl;
-        parts = restart-same (b .records) (s .sized) (b .cells) (s .few);
+        parts = restart-same (b .records) (s .kept .sized) (b .cells) (s .kept .few);
         own = refl;
-        sound = fresh-sound (b .records) (b .cells) (s .few) (s .sized) (s .fits);
+        sound = fresh-sound (b .records) (b .cells) (s .kept) (s .fits);
       })))
 
   image-same : imageOf (length (b .records)) (padded (joined (b .records))) ≡ imageBytes (b .records)
   image-same =
       let j = joined (b .records) in
-      rw (take-at j (replicate (functionsMax * recordSize - length j) 0) (recordSize * length (b .records)) (joined-length (b .records) (s .sized)))
+      rw (take-at j (replicate (functionsMax * recordSize - length j) 0) (recordSize * length (b .records)) (joined-length (b .records) (s .kept .sized)))
 
   same-write : (own : List ℕ) → Simulated b WriteImage own
   unfolding step referenceStep write partsOf
@@ -92,7 +92,7 @@ module _ (b : Reference) (s : Sound b) where
   same-list : (n : ℕ) → Answered b (ListWindow n)
   unfolding queried referenceQueried partsOf
   same-list n =
-      rw (kept-of (length (b .records)) (exponentOf (b .records)) (b .registers) (s .few), number-is (windowsOf b) n, values-are (windowsOf b) n)
+      rw (kept-of (length (b .records)) (exponentOf (b .records)) (b .registers) (s .kept .few), number-is (windowsOf b) n, values-are (windowsOf b) n)
 
   same-query : (q : Query) → Answered b q
   unfolding queried referenceQueried
@@ -109,7 +109,7 @@ module _ (b : Reference) (s : Sound b) where
 
 -- the board that a query sees
 blanked-sound : (b : Reference) → Sound b → Sound (blankedOf b)
-blanked-sound b s = record { few = s .few; sized = s .sized; fits = rw length-replicate (s .fits); chained = s .chained }
+blanked-sound b s = sound-with s (rw length-replicate (omega arith)) (s .chained)
 
 module _ (b : Reference) (s : Sound b) where
   same-ask : (q : Query) (own : List ℕ) → Simulated b (Ask q) own
@@ -138,7 +138,12 @@ unfolding cellsBefore
 no-cells = refl
 
 pub sound-start : (cells : List ℕ) → Sound (referenceStart cells)
-sound-start cells = record { few = omega arith; sized = tt; fits = rw no-cells (omega arith); chained = no-chains [] }
+sound-start cells =
+    record {
+      kept = record { few = omega arith; sized = tt; ruled = λ i h. absurd (omega arith); small = rw no-cells (omega arith) };
+      fits = rw no-cells (omega arith);
+      chained = no-chains [];
+    }
 
 no-windows : keptList (listOf 0 (exponentOf []) (λ i register. 0)) ≡ replicate windowsMax 0
 unfolding keptList listOf openWindows gather putAll

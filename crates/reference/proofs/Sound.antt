@@ -1,6 +1,6 @@
 -- What every reference state of a run has, and what is proved of each call on its lent parts.
 use Prim.Native.Nat.{ℕ, _<_, _≤_, min}
-use native.Mathlib.Nat.{min-eq-left}
+use native.Mathlib.Nat.{min-eq-left, le-trans}
 use mathlib.Core.Bool.{true}
 use mathlib.Core.Path.{_≡_, refl}
 use mathlib.Core.List.{List}
@@ -10,21 +10,27 @@ use borrow.Author.Tests.{leb-true}
 use Rattle.board.specs.Handles.{isHandle}
 use Rattle.board.specs.Layout.{functionsMax}
 use Rattle.numbers.proofs.Tests.{both-true}
+use Rattle.hooks.specs.Hooks.{Hook}
+use Rattle.card_used.specs.Used.{Mark}
 use Rattle.cells.specs.Cells.{total}
 use Rattle.call.specs.declared.answer.Answer.{Answer}
 use Rattle.call.specs.declared.call.Call.{Call}
 use Rattle.call.specs.declared.call.Query.{Query}
 use Rattle.reference.specs.State.{Next, next, step, queried}
-use Rattle.reference.specs.Reference.{Reference, Told, told, exponentOf, isHandleOf, referenceStep, referenceQueried}
+use Rattle.reference.specs.Reference.{Reference, reference, Told, told, exponentOf, isHandleOf, referenceStep, referenceQueried}
 use Rattle.reference.specs.Run.{partsOf}
-use Rattle.reference.proofs.Records.{Sized}
+use Rattle.reference.proofs.Records.{Ruled}
 use Rattle.reference.proofs.Chained.{Chained}
 
 pub record Sound (b : Reference) : Type 0 where
-  pub few : length (b .records) ≤ functionsMax
-  pub sized : Sized (b .records)
+  pub kept : Ruled (b .records)
   pub fits : total (exponentOf (b .records)) ≤ length (b .cells)
   pub chained : Chained (b .records) (b .chains)
+
+-- the same records beside other registers, at least as many cells, other chains and marks
+pub sound-with : {b : Reference} {registers : ℕ → ℕ → ℕ} {cells : List ℕ} {chains : ℕ → List Hook} {used : ℕ → Mark} → Sound b
+    → length (b .cells) ≤ length cells → Chained (b .records) chains → Sound (reference (b .records) registers cells chains used)
+sound-with s more c = record { kept = s .kept; fits = le-trans (s .fits) more; chained = c }
 
 pub record Same (n : Next) (t : Told) : Type 0 where
   pub answer : n .answer ≡ t .answer
@@ -49,7 +55,7 @@ module _ (b : Reference) (s : Sound b) where
   answered e = record { answer = e; parts = refl; own = refl; sound = s }
 
   pub count-same : min (length (b .records)) functionsMax ≡ length (b .records)
-  count-same = min-eq-left (s .few)
+  count-same = min-eq-left (s .kept .few)
 
   pub handle-same : (handle : ℕ) → isHandle (partsOf b .header) handle ≡ isHandleOf b handle
   unfolding partsOf

@@ -17,12 +17,12 @@ use Rattle.reference.specs.State.{next, step, queried}
 use Rattle.reference.specs.Reference.{Reference, Told, isHandleOf, referenceStep, referenceQueried}
 use Rattle.reference.specs.Run.{partsOf}
 use Rattle.reference.proofs.Tests.{ifBoth, ifAlike}
-use Rattle.reference.proofs.Sound.{Sound, Same, Simulated, Answered, as-told, handle-same, handle-within}
+use Rattle.reference.proofs.Sound.{Sound, sound-with, Same, Simulated, Answered, as-told, handle-same, handle-within}
 
 module _ (b : Reference) (s : Sound b) where
   -- the function of a good handle has a mark
   marked : (handle : ℕ) → isHandleOf b handle ≡ true → handle - 1 < functionsMax
-  marked handle g = let k = handle-within b handle g in omega (arith, s .few, k .0, k .1)
+  marked handle g = let k = handle-within b handle g in omega (arith, s .kept .few, k .0, k .1)
 
   pub same-get-used : (handle : ℕ) → Answered b (GetCardUsed handle)
   unfolding queried referenceQueried partsOf
@@ -41,7 +41,7 @@ module _ (b : Reference) (s : Sound b) where
         answer = refl;
         parts = ap (λ (l : List ℕ). withUsed l (partsOf b)) (marks-put (b .used) (handle - 1) (newMark status callBack) (marked handle g));
         own = refl;
-        sound = record { few = s .few; sized = s .sized; fits = s .fits; chained = s .chained };
+        sound = sound-with s (omega arith) (s .chained);
       })
       (λ e. as-told b s))
       (λ g. as-told b s)
