@@ -8,6 +8,7 @@ use Rattle.board.specs.Statuses.{successful}
 use Rattle.board.specs.declared.read.Read.{Read}
 use Rattle.board.specs.declared.read.FastRead.{FastRead}
 use Rattle.board.specs.declared.status.Status.{Status}
+use Rattle.find_window.specs.Find.{statusOf}
 use Rattle.data_cells.specs.declared.place.Place.{Place}
 use Rattle.data_cells.specs.declared.place.Place.the-variants.{At, Refused}
 use Rattle.data_cells.specs.Cells.{dataPlace, valueAt, cellsAfter}
@@ -18,11 +19,11 @@ Inside w room place = (at order : ℕ) → place ≡ At at order → at + w ≤ 
 
 abbrev pub readAt : ℕ → List ℕ → Place → Read
 readAt w cells (At at order) = accepted (valueAt order w at cells)
-readAt w cells (Refused s) = refused s
+readAt w cells (Refused r) = refused (statusOf r)
 
 abbrev pub fastReadAt : ℕ → List ℕ → Place → FastRead
 fastReadAt w cells (At at order) = acceptedFast (valueAt order w at cells)
-fastReadAt w cells (Refused s) = refusedFast w
+fastReadAt w cells (Refused r) = refusedFast w
 
 -- a write's status, and the cells that it leaves
 pub record Wrote : Type 0 where
@@ -34,7 +35,7 @@ wrote status cells = record { status = status; cells = cells }
 
 abbrev pub writeAt : ℕ → ℕ → List ℕ → Place → Wrote
 writeAt w value cells (At at order) = wrote successful (cellsAfter order w at value cells)
-writeAt w value cells (Refused s) = wrote s cells
+writeAt w value cells (Refused r) = wrote (statusOf r) cells
 
 -- of the lent parts
 abbrev pub readData : ℕ → List ℕ → List ℕ → List ℕ → List ℕ → List ℕ → ℕ → ℕ → ℕ → Read

@@ -7,6 +7,7 @@ use board::read::refused_fast;
 use board::status::Status;
 use byte_order::order::ordered;
 use data_cells::place::Place;
+use find_window::refusal::status_of;
 use numbers::number::Width;
 ghost use mathlib.Core.Path.{_≡_};
 ghost use lib.ListN.{length};
@@ -22,8 +23,8 @@ pub(crate) fn read_at(cells: &[u8], width: Width, place: Place) -> Read
             status: Status::SUCCESSFUL,
             value: value_at(cells, at, order, width),
         },
-        Place::Refused(status) => Read {
-            status: status,
+        Place::Refused(refusal) => Read {
+            status: status_of(refusal),
             value: 0,
         },
     }
@@ -51,6 +52,6 @@ pub(crate) fn write_at(cells: &mut [u8], width: Width, value: u32, place: Place)
             put_number(cells, at, width, ordered(order, width, value));
             Status::SUCCESSFUL
         }
-        Place::Refused(status) => status,
+        Place::Refused(refusal) => status_of(refusal),
     }
 }

@@ -1,5 +1,6 @@
 // Card-used marks.
 use board::handle::is_handle;
+use board::handle::place;
 use board::layout::Header;
 use board::layout::MARK;
 use board::layout::Used;
@@ -34,7 +35,7 @@ pub fn get_card_used(header: &Header, used: &Used, handle: u32) -> CardUsed
             call_back: 0,
         };
     }
-    let at = MARK * ((handle - 1) as usize);
+    let at = MARK * (place(handle) as usize);
     CardUsed {
         status: Status::SUCCESSFUL,
         used: u32_at(used, at),
@@ -80,6 +81,6 @@ pub fn set_card_used(
         return Status::GENERAL_ERROR;
     }
     let kept = call_back_kept(status, call_back);
-    put(used, (handle - 1) as usize, status, kept);
+    put(used, place(handle) as usize, status, kept);
     Status::SUCCESSFUL
 }

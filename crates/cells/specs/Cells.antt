@@ -1,19 +1,14 @@
 -- The cells of the windows: document 01, "The modelled board". k i b is the length exponent of base register b of the function at place i.
-use Prim.Native.Nat.{ℕ, zero, suc, _+_, _/_, _%_, _^_}
-use mathlib.Core.Bool.{_&&_, cond}
+use Prim.Native.Nat.{ℕ, zero, suc, _+_, _/_, _%_}
 use mathlib.Core.List.{List, _++_}
-use lib.Dec.{leb}
 use lib.ListN.{drop, replicate}
 use Rattle.numbers.specs.Tables.{table}
 use Rattle.board.specs.Layout.{bases, windowsMax}
-
--- the cells of a window of length exponent k: an exponent outside 2..16 is no window
-abbrev pub cellCount : ℕ → ℕ
-cellCount k = cond (leb 2 k && leb k 16) (2 ^ k) 0
+use Rattle.window.specs.Window.{windowLength}
 
 -- the cells of slot s, which is base register s % 6 of function s / 6: function order, then base register order
 abbrev pub slotCells : (ℕ → ℕ → ℕ) → ℕ → ℕ
-slotCells k s = cellCount (k (s / bases) (s % bases))
+slotCells k s = windowLength (k (s / bases) (s % bases))
 
 -- where the cells of slot s begin: no gaps
 unfoldable pub cellsBefore : (ℕ → ℕ → ℕ) → ℕ → ℕ

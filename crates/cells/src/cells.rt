@@ -7,26 +7,12 @@ use board::layout::RECORD;
 use board::layout::Records;
 use board::layout::WINDOWS;
 use numbers::number::byte_at;
-use numbers::number::power;
+use window::decode::window_length;
 ghost use mathlib.Core.Path.{_≡_};
 ghost use Prim.Native.Nat.{_+_, _<_, _≤_};
 ghost use lib.ListN.{length};
 ghost use Rattle.board.specs.Layout.{windowsMax, exponent};
-ghost use Rattle.cells.specs.Cells.{cellCount, slotCells, total, offsetsOf};
-
-// The cells of a window of length exponent k.
-fn cell_count(k: u8) -> u32
-    ensures { λ r. ⌜ r ≡ cellCount k ⌝ }
-    ensures { λ r. ⌜ r ≤ 65536 ⌝ }
-{
-    if k < 2 {
-        return 0;
-    }
-    if 16 < k {
-        return 0;
-    }
-    power(k as u32) as u32
-}
+ghost use Rattle.cells.specs.Cells.{slotCells, total, offsetsOf};
 
 // The cells of slot s: base register s % 6 of function s / 6.
 fn slot_cells(records: &[u8], s: usize) -> u32
@@ -35,7 +21,7 @@ fn slot_cells(records: &[u8], s: usize) -> u32
     ensures { λ r. ⌜ r ≤ 65536 ⌝ }
 {
     let at = RECORD * (s / BASES) + (ENTRIES as usize + ENTRY as usize * (s % BASES));
-    cell_count(byte_at(records, at))
+    window_length(byte_at(records, at))
 }
 
 // The cells of all windows.

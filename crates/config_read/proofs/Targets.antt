@@ -3,10 +3,10 @@ use Prim.Native.Nat.{ℕ, _+_, _-_, _%_, _<_, _≤_}
 use native.Mathlib.Omega.{arith}
 use mathlib.Core.Bool.{Bool, true, false, cond, _&&_}
 use mathlib.Core.Path.{_≡_, refl, sym, ap}
-use lib.Dec.{eqb, leb}
+use lib.Dec.{leb}
 use borrow.Author.Tests.{eqb-true, le-leb, leb-true}
 use Rattle.board.specs.Layout.{registersEach}
-use Rattle.numbers.specs.Numbers.{bytes}
+use Rattle.numbers.specs.Numbers.{bytes, isMultiple}
 use Rattle.board.specs.Statuses.{successful, badRegisterNumber, badHandle}
 use Rattle.numbers.specs.declared.number.Width.{Width}
 use Rattle.numbers.specs.declared.number.Width.the-variants.{Byte, Word, Long}
@@ -23,10 +23,10 @@ aligned-inside Word register h e = omega arith
 aligned-inside Long register h e = omega arith
 
 -- so that alignment is all that is to be tested
-pub aligned-fits : (width : Width) (register : ℕ) → register < registersEach → eqb (register % bytes width) 0 ≡ fits (bytes width) register
-aligned-fits width register h = by (eqb (register % bytes width) 0) refl
+pub aligned-fits : (width : Width) (register : ℕ) → register < registersEach → isMultiple register (bytes width) ≡ fits (bytes width) register
+aligned-fits width register h = by (isMultiple register (bytes width)) refl
   where
-    by : (t : Bool) → eqb (register % bytes width) 0 ≡ t → t ≡ (t && leb (register + bytes width) registersEach)
+    by : (t : Bool) → isMultiple register (bytes width) ≡ t → t ≡ (t && leb (register + bytes width) registersEach)
     by true e = sym (le-leb _ _ (aligned-inside width register h (eqb-true _ _ e)))
     by false e = refl
 
@@ -55,4 +55,4 @@ target-refuses good w handle register s = by good (fits w register)
 -- THEOREM: no accepted access passes the last register
 pub inside-registers : InsideRegisters
 inside-registers good w handle register i e =
-    leb-true (register + w) registersEach (both-true (eqb (register % w) 0) _ (target-accepts good w handle register i e .1 .1) .1)
+    leb-true (register + w) registersEach (both-true (isMultiple register w) _ (target-accepts good w handle register i e .1 .1) .1)

@@ -1,7 +1,8 @@
 -- The checks of a configuration call: document 01, "Numbers handed back".
-use Prim.Native.Nat.{ℕ, _+_, _-_, _%_}
+use Prim.Native.Nat.{ℕ, _+_, _-_}
 use mathlib.Core.Bool.{Bool, cond, _&&_}
-use lib.Dec.{eqb, leb}
+use lib.Dec.{leb}
+use Rattle.numbers.specs.Numbers.{isMultiple}
 use Rattle.board.specs.Layout.{registersEach}
 use Rattle.board.specs.Statuses.{badRegisterNumber, badHandle}
 use Rattle.config_read.specs.declared.target.Target.{Target}
@@ -9,7 +10,7 @@ use Rattle.config_read.specs.declared.target.Target.the-variants.{Functi
 
 -- w bytes from a register on: a word is even, a longword a multiple of 4, and none passes FFh
 abbrev pub fits : ℕ → ℕ → Bool
-fits w register = eqb (register % w) 0 && leb (register + w) registersEach
+fits w register = isMultiple register w && leb (register + w) registersEach
 
 -- the order of checks: -9, -5; the handle of the function at place i is i + 1
 unfoldable pub target : Bool → ℕ → ℕ → ℕ → Target

@@ -1,5 +1,6 @@
 // The checks of a configuration call: which function it is for.
 use board::handle::is_handle;
+use board::handle::place;
 use board::layout::Header;
 use board::status::Status;
 use numbers::number::Width;
@@ -34,5 +35,5 @@ pub fn target_of(header: &Header, width: Width, handle: u32, register: u8) -> Ta
     if !fitting {
         return Target::Refused(Status::BAD_REGISTER_NUMBER);
     }
-    Target::Function(handle - 1)
+    Target::Function(place(handle))
 }

@@ -2,6 +2,7 @@
 use board::address::BusAddress;
 use board::address::CpuAddress;
 use board::handle::is_handle;
+use board::handle::place;
 use board::layout::Header;
 use board::layout::Records;
 use board::layout::offset;
@@ -32,7 +33,7 @@ pub fn bus_to_cpu(header: &Header, records: &Records, handle: u32, address: BusA
     }
     ToCpu {
         status: Status::SUCCESSFUL,
-        address: address.to_cpu(offset(records, handle - 1)),
+        address: address.to_cpu(offset(records, place(handle))),
     }
 }
 
@@ -48,6 +49,6 @@ pub fn cpu_to_bus(header: &Header, records: &Records, handle: u32, address: CpuA
     }
     ToBus {
         status: Status::SUCCESSFUL,
-        address: address.to_bus(offset(records, handle - 1)),
+        address: address.to_bus(offset(records, place(handle))),
     }
 }

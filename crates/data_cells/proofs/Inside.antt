@@ -4,16 +4,16 @@ use mathlib.Core.Bool.{Bool, true, false, cond, true≢false}
 use mathlib.Core.Path.{_≡_, refl}
 use lib.Dec.{ltb}
 use borrow.Author.Tests.{ltb-false}
-use Rattle.board.specs.Statuses.{bufferTooSmall}
 use Rattle.find_window.specs.declared.find.Finding.{Finding}
-use Rattle.find_window.specs.declared.find.Finding.the-variants.{Found, BadHandle, ShortCells, NotAligned, Nothing, Contested, WidthMissing}
+use Rattle.find_window.specs.declared.find.Finding.the-variants.{Found, Refused as NoWindow}
+use Rattle.find_window.specs.declared.refusal.Refusal.the-variants.{PastBuffer}
 use Rattle.data_cells.specs.declared.place.Place.the-variants.{At, Refused}
 use Rattle.byte_order.specs.Orders.{placed}
 use Rattle.data_cells.specs.Cells.{placeOf}
 
 -- the last test of the cells, turned
 cells-inside : (cell order room w at order′ : ℕ) (b : Bool) → ltb room (cell + w) ≡ b
-    → cond b (Refused bufferTooSmall) (At cell order) ≡ At at order′ → at + w ≤ room
+    → cond b (Refused PastBuffer) (At cell order) ≡ At at order′ → at + w ≤ room
 cells-inside cell order room w at order′ true t e = absurd (true≢false cc)
 cells-inside cell order room w at order′ false t e = let same : cell ≡ at = cc in rw same at (ltb-false room (cell + w) t)
 
@@ -21,9 +21,4 @@ pub place-inside : (begins orders : ℕ → ℕ) (room w : ℕ) (f : Finding) (a
 unfolding placeOf
 place-inside begins orders room w (Found base distance remaining) at order e =
     cells-inside (begins base + placed (orders base) w distance) (orders base) room w at order _ refl e
-place-inside begins orders room w BadHandle at order e = absurd (true≢false cc)
-place-inside begins orders room w ShortCells at order e = absurd (true≢false cc)
-place-inside begins orders room w NotAligned at order e = absurd (true≢false cc)
-place-inside begins orders room w Nothing at order e = absurd (true≢false cc)
-place-inside begins orders room w Contested at order e = absurd (true≢false cc)
-place-inside begins orders room w WidthMissing at order e = absurd (true≢false cc)
+place-inside begins orders room w (NoWindow r) at order e = absurd (true≢false cc)

@@ -4,7 +4,7 @@ use mathlib.Core.List.{List}
 use mathlib.Core.Path.{_≡_, refl, sym, _∙_}
 use Rattle.board.proofs.Handles.{handle-place}
 use Rattle.find_window.specs.declared.find.Finding.{Finding}
-use Rattle.find_window.specs.declared.find.Finding.the-variants.{Found, BadHandle, ShortCells, NotAligned, Nothing, Contested, WidthMissing}
+use Rattle.find_window.specs.declared.find.Finding.the-variants.{Found, Refused}
 use Rattle.find_window.specs.Find.{findIn}
 use Rattle.find_window.proofs.Meaning.{found-means}
 use Rattle.data_cells.specs.declared.place.Place.{Place}
@@ -15,12 +15,7 @@ found-only : (records offsets : List ℕ) (room w p q : ℕ) (f : Finding) → (
     → placeIn records offsets room w p f ≡ placeIn records offsets room w q f
 unfolding placeOf
 found-only records offsets room w p q (Found base distance remaining) h = rw (h base distance remaining refl)
-found-only records offsets room w p q BadHandle h = refl
-found-only records offsets room w p q ShortCells h = refl
-found-only records offsets room w p q NotAligned h = refl
-found-only records offsets room w p q Nothing h = refl
-found-only records offsets room w p q Contested h = refl
-found-only records offsets room w p q WidthMissing h = refl
+found-only records offsets room w p q (Refused r) h = refl
 
 -- so the place for what is found is the access's, whatever the function's place is given as for a number that is no handle
 pub place-named : (header records windows offsets : List ℕ) (w room space handle address function : ℕ) (finding : Finding) (place : Place)

@@ -7,28 +7,23 @@ use lib.ListN.{getD}
 use lib.Seq.{sets}
 use Rattle.board.specs.Layout.{bases, byteOrder}
 use Rattle.numbers.specs.Numbers.{byteAt, big, bigBytes}
-use Rattle.board.specs.Statuses.{bufferTooSmall}
 use Rattle.find_window.specs.declared.find.Finding.{Finding}
-use Rattle.find_window.specs.declared.find.Finding.the-variants.{Found, BadHandle, ShortCells, NotAligned, Nothing, Contested, WidthMissing}
+use Rattle.find_window.specs.declared.find.Finding.the-variants.{Found, Refused as NoWindow}
+use Rattle.find_window.specs.declared.refusal.Refusal.the-variants.{PastBuffer}
 use Rattle.data_cells.specs.declared.place.Place.{Place}
 use Rattle.data_cells.specs.declared.place.Place.the-variants.{At, Refused}
-use Rattle.find_window.specs.Find.{statusOf, findIn}
+use Rattle.find_window.specs.Find.{findIn}
 use Rattle.byte_order.specs.Orders.{placed, ordered}
 
--- the first cell of an access, and the byte order; cells past the buffer, which only an altered board has, give -7, tested last
+-- the first cell of an access, and the byte order; whether cells are past the buffer, which only an altered board has, is tested last
 abbrev pub cellsAt : ℕ → ℕ → ℕ → ℕ → ℕ → Place
 cellsAt begin order room w distance =
-    let at = begin + placed order w distance in cond (ltb room (at + w)) (Refused bufferTooSmall) (At at order)
+    let at = begin + placed order w distance in cond (ltb room (at + w)) (Refused PastBuffer) (At at order)
 
 -- begins b is where the cells of base register b begin, orders b its byte order
 unfoldable pub placeOf : (ℕ → ℕ) → (ℕ → ℕ) → ℕ → ℕ → Finding → Place
 placeOf begins orders room w (Found base distance remaining) = cellsAt (begins base) (orders base) room w distance
-placeOf begins orders room w BadHandle = Refused (statusOf BadHandle)
-placeOf begins orders room w ShortCells = Refused (statusOf ShortCells)
-placeOf begins orders room w NotAligned = Refused (statusOf NotAligned)
-placeOf begins orders room w Nothing = Refused (statusOf Nothing)
-placeOf begins orders room w Contested = Refused (statusOf Contested)
-placeOf begins orders room w WidthMissing = Refused (statusOf WidthMissing)
+placeOf begins orders room w (NoWindow r) = Refused r
 
 -- of the lent parts, for what was found in the windows of the function at a place, with so many cells lent
 abbrev pub placeIn : List ℕ → List ℕ → ℕ → ℕ → ℕ → Finding → Place

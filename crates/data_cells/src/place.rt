@@ -7,11 +7,11 @@ use board::layout::Header;
 use board::layout::Records;
 use board::layout::Windows;
 use board::layout::byte_order;
-use board::status::Status;
 use byte_order::order::placed;
 use find_window::find::Finding;
 use find_window::find::Space;
 use find_window::find::find_window;
+use find_window::refusal::Refusal;
 use numbers::number::Width;
 use numbers::number::bytes_by_shift;
 use numbers::number::u32_at;
@@ -23,10 +23,10 @@ ghost use Rattle.numbers.specs.Numbers.{bytes};
 ghost use Rattle.find_window.specs.Find.{spaceNumber};
 ghost use Rattle.data_cells.specs.Cells.{cellsAt, placeIn, dataPlace};
 
-// The first cell and the byte order of an access, or the refusal.
+// The first cell and the byte order of an access, or why it is refused.
 pub enum Place {
     At { at: usize, order: u8 },
-    Refused(Status),
+    Refused(Refusal),
 }
 
 // The cells for a distance into the window of a base register.
@@ -45,7 +45,7 @@ fn cells_at(
     let begin = u32_at(offsets, BASES * (function as usize) + base as usize);
     let at = begin as usize + placed(order, width, distance) as usize;
     if room < at + bytes_by_shift(width) as usize {
-        return Place::Refused(Status::BUFFER_TOO_SMALL);
+        return Place::Refused(Refusal::PastBuffer);
     }
     Place::At {
         at: at,
@@ -70,12 +70,7 @@ pub fn place_of(
             distance,
             remaining: _,
         } => cells_at(records, offsets, room, width, function, base, distance),
-        Finding::BadHandle => Place::Refused(Status::BAD_HANDLE),
-        Finding::ShortCells => Place::Refused(Status::BUFFER_TOO_SMALL),
-        Finding::NotAligned => Place::Refused(Status::GENERAL_ERROR),
-        Finding::Nothing => Place::Refused(Status::GENERAL_ERROR),
-        Finding::Contested => Place::Refused(Status::GENERAL_ERROR),
-        Finding::WidthMissing => Place::Refused(Status::FUNC_NOT_SUPPORTED),
+        Finding::Refused(refusal) => Place::Refused(refusal),
     }
 }
 

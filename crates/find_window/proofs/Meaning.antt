@@ -4,11 +4,11 @@ use mathlib.Core.Bool.{Bool, true, false, cond, true≢false}
 use mathlib.Core.List.{List, [], _∷_}
 use mathlib.Core.Logic.{inl, inr}
 use mathlib.Core.Path.{_≡_, refl}
-use lib.Dec.{eqb}
 use borrow.Author.Tests.{eqb-true}
-use Rattle.window.specs.Window.{In}
-use Rattle.window.specs.Window.{Window, end}
-use Rattle.find_window.specs.declared.find.Finding.the-variants.{Found, BadHandle, ShortCells, NotAligned, Contested, WidthMissing}
+use Rattle.numbers.specs.Numbers.{isMultiple}
+use Rattle.window.specs.Window.{Window, end, In}
+use Rattle.find_window.specs.declared.find.Finding.the-variants.{Found, Refused}
+use Rattle.find_window.specs.declared.refusal.Refusal.the-variants.{BadHandle, ShortCells, NotAligned, Contested, WidthMissing}
 use Rattle.find_window.specs.Find.{holds, judged, inList, find}
 use Rattle.find_window.specs.Meaning.{FoundFor, FoundMeans}
 
@@ -22,7 +22,7 @@ module _ (offered : ℕ → Bool) (l : List Window) (space handle address base d
   found-here v i own = by (v .contested) (offered (v .base)) refl refl
     where
       by : (c t : Bool) → v .contested ≡ c → offered (v .base) ≡ t
-          → cond c Contested (cond t (Found (v .base) (address - v .start) (end v - address)) WidthMissing) ≡ Found base distance remaining
+          → cond c (Refused Contested) (cond t (Found (v .base) (address - v .start) (end v - address)) (Refused WidthMissing)) ≡ Found base distance remaining
           → ForHandle
       by true t clear e f = absurd (true≢false cc)
       by false true clear e f =
@@ -46,10 +46,10 @@ module _ (offered : ℕ → Bool) (l : List Window) (space handle address base d
 -- THEOREM: a window is found for the handle named
 pub found-means : FoundMeans
 unfolding find
-found-means good short offered l space w handle address base distance remaining = by good short (eqb (address % w) 0) refl
+found-means good short offered l space w handle address base distance remaining = by good short (isMultiple address w) refl
   where
-    by : (g s a : Bool) → eqb (address % w) 0 ≡ a
-        → cond g (cond s ShortCells (cond a (inList offered space handle address l) NotAligned)) BadHandle ≡ Found base distance remaining
+    by : (g s a : Bool) → isMultiple address w ≡ a
+        → cond g (cond s (Refused ShortCells) (cond a (inList offered space handle address l) (Refused NotAligned))) (Refused BadHandle) ≡ Found base distance remaining
         → ((g ≡ true) × (s ≡ false))
         × (((address % w ≡ 0) × (offered base ≡ true)) × FoundFor l space handle address base distance remaining)
     by true false true e f =

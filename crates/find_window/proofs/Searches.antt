@@ -1,5 +1,5 @@
 -- A turn of the search through the kept list, at place j.
-use Prim.Native.Nat.{ℕ, zero, suc, _+_, _-_, _/_, _%_, _^_, _<_, _≤_}
+use Prim.Native.Nat.{ℕ, zero, suc, _+_, _-_, _<_, _≤_}
 use native.Mathlib.Omega.{arith}
 use mathlib.Core.Bool.{Bool, true, false, not}
 use mathlib.Core.List.{List}
@@ -9,10 +9,11 @@ use borrow.Author.Tests.{eqb-true, leb-true, ltb-true}
 use lib.ListN.{length, getD, drop}
 use Rattle.board.specs.Layout.{bases}
 use Rattle.numbers.proofs.Tests.{both-true}
-use Rattle.window.specs.Kept.{unpack, unpacked}
+use Rattle.window.specs.Kept.{unpack, isEnd, unpacked}
 use Rattle.window.specs.Window.{Window, end}
 use Rattle.window.proofs.Unpacked.{unpacked-none, unpacked-one, unpacked-end}
-use Rattle.find_window.specs.declared.find.Finding.the-variants.{Nothing}
+use Rattle.find_window.specs.declared.find.Finding.the-variants.{Refused}
+use Rattle.find_window.specs.declared.refusal.Refusal.the-variants.{Nothing}
 use Rattle.find_window.specs.Find.{holds, judged, inList}
 
 -- a space is memory exactly if it is not I/O
@@ -22,22 +23,22 @@ memory-is (suc zero) h = refl
 memory-is (suc (suc n)) h = absurd (omega arith)
 
 module _ (offered : ℕ → Bool) (space handle address : ℕ) (l : List ℕ) (j : ℕ) where
-  -- the number there is no window, one that holds the address, another window; or there is none
-  pub list-none : j < length l → getD l j 0 / 2 % 2 ^ 17 ≡ 0 → inList offered space handle address (unpacked (drop j l)) ≡ Nothing
+  -- the list ends there, one that holds the address, another window; or there is none
+  pub list-none : j < length l → isEnd (getD l j 0) ≡ true → inList offered space handle address (unpacked (drop j l)) ≡ Refused Nothing
   unfolding inList
   list-none h z = rw (unpacked-none l j h z)
 
-  pub list-here : j < length l → (getD l j 0 / 2 % 2 ^ 17 ≡ 0 → ⊥) → holds space handle address (unpack (getD l j 0)) ≡ true
+  pub list-here : j < length l → isEnd (getD l j 0) ≡ false → holds space handle address (unpack (getD l j 0)) ≡ true
       → inList offered space handle address (unpacked (drop j l)) ≡ judged offered address (unpack (getD l j 0))
   unfolding inList
   list-here h n t = rw (unpacked-one l j h n, t)
 
-  pub list-on : j < length l → (getD l j 0 / 2 % 2 ^ 17 ≡ 0 → ⊥) → holds space handle address (unpack (getD l j 0)) ≡ false
+  pub list-on : j < length l → isEnd (getD l j 0) ≡ false → holds space handle address (unpack (getD l j 0)) ≡ false
       → inList offered space handle address (unpacked (drop j l)) ≡ inList offered space handle address (unpacked (drop (j + 1) l))
   unfolding inList
   list-on h n t = rw (unpacked-one l j h n, t)
 
-  pub list-end : length l ≤ j → inList offered space handle address (unpacked (drop j l)) ≡ Nothing
+  pub list-end : length l ≤ j → inList offered space handle address (unpacked (drop j l)) ≡ Refused Nothing
   unfolding inList
   list-end h = rw (unpacked-end l j h)
 

@@ -6,14 +6,17 @@ use lib.Dec.{eqb, leb, ltb}
 use lib.ListN.{getD}
 use Rattle.board.specs.Handles.{isHandle}
 use Rattle.board.specs.Layout.{bases, windowsMax, widths}
-use Rattle.board.specs.Statuses.{successful, funcNotSupported, bufferTooSmall, generalError, badHandle}
+use Rattle.board.specs.Statuses.{funcNotSupported, bufferTooSmall, generalError, badHandle}
 use Rattle.board.specs.declared.status.Status.{Status}
+use Rattle.numbers.specs.Numbers.{isMultiple}
 use Rattle.window.specs.Kept.{unpacked}
 use Rattle.window.specs.Window.{Window, end}
 use Rattle.find_window.specs.declared.find.Finding.{Finding}
-use Rattle.find_window.specs.declared.find.Finding.the-variants.{Found, BadHandle, ShortCells, NotAligned, Nothing, Contested, WidthMissing}
+use Rattle.find_window.specs.declared.find.Finding.the-variants.{Found, Refused}
 use Rattle.find_window.specs.declared.find.Space.{Space}
 use Rattle.find_window.specs.declared.find.Space.the-variants.{Memory, Io}
+use Rattle.find_window.specs.declared.refusal.Refusal.{Refusal}
+use Rattle.find_window.specs.declared.refusal.Refusal.the-variants.{BadHandle, ShortCells, NotAligned, Nothing, Contested, WidthMissing, PastBuffer}
 
 abbrev pub spaceNumber : Space → ℕ
 spaceNumber Memory = 0
@@ -31,28 +34,28 @@ offers w widths = eqb (widths / w % 2) 1
 -- of a window that holds the address: contested, or not of this width, or found with the distance from its start and the bytes that remain to its end
 abbrev pub judged : (ℕ → Bool) → ℕ → Window → Finding
 judged offered address w =
-    cond (w .contested) Contested (cond (offered (w .base)) (Found (w .base) (address - w .start) (end w - address)) WidthMissing)
+    cond (w .contested) (Refused Contested) (cond (offered (w .base)) (Found (w .base) (address - w .start) (end w - address)) (Refused WidthMissing))
 
 -- of the first window of a list that holds it
 unfoldable pub inList : (ℕ → Bool) → ℕ → ℕ → ℕ → List Window → Finding
-inList offered space handle address [] = Nothing
+inList offered space handle address [] = Refused Nothing
 inList offered space handle address (w ∷ l) =
     cond (holds space handle address w) (judged offered address w) (inList offered space handle address l)
 
 -- the checks in their order, of a handle that is good or not and cells that are short or not; offered b: base register b offers this width
 unfoldable pub find : Bool → Bool → (ℕ → Bool) → List Window → ℕ → ℕ → ℕ → ℕ → Finding
 find good short offered l space w handle address =
-    cond good (cond short ShortCells (cond (eqb (address % w) 0) (inList offered space handle address l) NotAligned)) BadHandle
+    cond good (cond short (Refused ShortCells) (cond (isMultiple address w) (inList offered space handle address l) (Refused NotAligned))) (Refused BadHandle)
 
--- the number of each finding
-abbrev pub statusOf : Finding → Status
-statusOf (Found base distance remaining) = successful
+-- the number of each refusal; a cell past the buffer, which only an altered board has, is found after all that is tested here
+abbrev pub statusOf : Refusal → Status
 statusOf BadHandle = badHandle
 statusOf ShortCells = bufferTooSmall
 statusOf NotAligned = generalError
 statusOf Nothing = generalError
 statusOf Contested = generalError
 statusOf WidthMissing = funcNotSupported
+statusOf PastBuffer = bufferTooSmall
 
 -- of the lent parts, with so many cells lent
 abbrev pub findIn : ℕ → List ℕ → List ℕ → List ℕ → List ℕ → ℕ → ℕ → ℕ → ℕ → Finding

@@ -3,8 +3,7 @@ use Prim.Native.Nat.{ℕ, _-_, _%_}
 use mathlib.Core.Bool.{Bool, true, false}
 use mathlib.Core.List.{List}
 use mathlib.Core.Path.{_≡_}
-use Rattle.window.specs.Window.{In}
-use Rattle.window.specs.Window.{Window, end}
+use Rattle.window.specs.Window.{Window, end, In}
 use Rattle.find_window.specs.declared.find.Finding.the-variants.{Found}
 use Rattle.find_window.specs.Find.{holds, find}
 

@@ -1,6 +1,8 @@
 // The step that finds the window for a handle.
+use crate::refusal::Refusal;
 use board::address::BusAddress;
 use board::handle::is_handle;
+use board::handle::place_of_handle;
 use board::layout::BASES;
 use board::layout::CellOffsets;
 use board::layout::Header;
@@ -10,16 +12,18 @@ use board::layout::Windows;
 use board::layout::widths;
 use numbers::number::Width;
 use numbers::number::bytes_by_shift;
+use numbers::number::is_multiple_by_shift;
 use numbers::number::u32_at;
 use window::kept::base_of;
 use window::kept::handle_of;
 use window::kept::is_contested;
+use window::kept::is_end;
 use window::kept::is_io;
 use window::kept::length_of;
 use window::kept::start_of;
 ghost use mathlib.Core.Path.{_≡_};
 ghost use lib.Dec.{eqb};
-ghost use Prim.Native.Nat.{_-_, _%_, _≤_, _<_};
+ghost use Prim.Native.Nat.{_-_, _≤_, _<_};
 ghost use Rattle.board.specs.Layout.{widths};
 ghost use Rattle.numbers.specs.Numbers.{bytes};
 ghost use Rattle.window.specs.Kept.{unpack, unpacked};
@@ -39,12 +43,7 @@ pub enum Finding {
         distance: u32,
         remaining: u32,
     },
-    BadHandle,
-    ShortCells,
-    NotAligned,
-    Nothing,
-    Contested,
-    WidthMissing,
+    Refused(Refusal),
 }
 
 fn is_in(w: u64, space: Space) -> bool
@@ -83,16 +82,17 @@ fn judged(records: &Records, w: u64, width: Width, function: u32, address: u32) 
     let contested = is_contested(w);
     let offered = offers(width, widths(records, function, base));
     if contested {
-        return Finding::Contested;
+        return Finding::Refused(Refusal::Contested);
     }
     if !offered {
-        return Finding::WidthMissing;
+        return Finding::Refused(Refusal::WidthMissing);
     }
     let distance = address - start_of(w);
+    let remaining = length_of(w) - distance;
     Finding::Found {
         base: base,
         distance: distance,
-        remaining: length_of(w) - distance,
+        remaining: remaining,
     }
 }
 
@@ -105,28 +105,21 @@ fn in_list(
     handle: u32,
     address: u32,
 ) -> Finding
-    requires { ⌜ 1 ≤ handle ⌝ }
+    requires { ⌜ 0 < handle ⌝ }
     ensures { λ r. ⌜ r ≡ inList (λ b. offers (bytes width) (widths (now (records .entry)) (handle - 1) b)) (spaceNumber space) handle address (unpacked (now (list .entry))) ⌝ }
 {
     let mut j = 0;
     while j < list.len() {
         let w = list[j];
-        if length_of(w) == 0 {
-            return Finding::Nothing;
+        if is_end(w) {
+            return Finding::Refused(Refusal::Nothing);
         }
         if holds(w, space, handle, address) {
-            return judged(records, w, width, handle - 1, address);
+            return judged(records, w, width, place_of_handle(handle), address);
         }
         j += 1;
     }
-    Finding::Nothing
-}
-
-// Whether an address is a multiple of a width.
-fn is_aligned(address: u32, width: Width) -> bool
-    ensures { λ r. ⌜ r ≡ eqb (address % bytes width) 0 ⌝ }
-{
-    address % bytes_by_shift(width) == 0
+    Finding::Refused(Refusal::Nothing)
 }
 
 // The window of a handle that holds an address, with so many cells lent.
@@ -145,15 +138,15 @@ pub fn find_window(
 {
     let good = is_handle(header, handle);
     let short = room < u32_at(offsets, WINDOWS) as usize;
-    let aligned = is_aligned(address.0, width);
+    let aligned = is_multiple_by_shift(address.0, width);
     if !good {
-        return Finding::BadHandle;
+        return Finding::Refused(Refusal::BadHandle);
     }
     if short {
-        return Finding::ShortCells;
+        return Finding::Refused(Refusal::ShortCells);
     }
     if !aligned {
-        return Finding::NotAligned;
+        return Finding::Refused(Refusal::NotAligned);
     }
     in_list(records, windows, space, width, handle, address.0)
 }

@@ -1,16 +1,17 @@
--- Laws of the numbers of w bytes, for every w: their bound, what they depend on, their digits, and what the digits of a value make; and one of powers of two.
+-- Laws of the numbers of w bytes, for every w: their bound, what they depend on, their digits, and what the digits of a value make; and some of powers of two.
 use mathlib.Core.Path.{_≡_, refl, sym, ap, _∙_}
 use mathlib.Core.List.{List, _++_}
 use Prim.Native.Nat.{ℕ, zero, suc, _+_, _-_, _*_, _/_, _%_, _<_, _≤_, _^_}
 use native.Mathlib.Omega.{arith}
 use native.Mathlib.Numerals.{add-one}
-use native.Mathlib.Nat.{add-zero, zero-add, pow-suc, pow-succ', div-one, div-div-eq-div-mul, one-le-pow, mod-eq-of-lt}
-use lib.Dec.{lit<}
+use native.Mathlib.Nat.{add-zero, zero-add, pow-suc, pow-succ', div-one, div-div-eq-div-mul, one-le-pow, pow-le-pow-right, mod-eq-of-lt}
+use lib.Dec.{lit<, lit≤}
 use lib.Arith.{mod-mul}
 use lib.Pow.{pow-add}
 use lib.ListN.{length, getD, take, drop, length-drop, List·getD-append}
 use lib.Seq.{length-take-le, getD-append-add, getD-take, getD-drop, ext-getD}
-use Rattle.numbers.specs.Numbers.{byteAt, little, big, bigBytes, reversed}
+use borrow.Author.Tests.{lt-ltb}
+use Rattle.numbers.specs.Numbers.{byteAt, little, big, bigBytes, reversed, power}
 use Rattle.numbers.proofs.Tables.{table-length, table-get}
 
 -- no bytes make 0
@@ -149,6 +150,13 @@ bytes-big w l at small h =
         table-get 0 w (λ j. big w (byteAt l) at / 256 ^ (w - suc j) % 256) i h
         ∙ big-digit w (byteAt l) at (w - suc (0 + i)) (omega arith)
         ∙ rw (e, getD-take w (drop at l) i 0 h, getD-drop at l i 0) (omega (arith, small (at + i)))
+
+-- up to 16 the power is 2 ^ k, which is 65,536 at most
+pub power-small : (k : ℕ) → k ≤ 16 → power k ≡ 2 ^ k
+power-small k h = rw (lt-ltb k 32 (omega arith))
+
+pub power-most : (k : ℕ) → k ≤ 16 → 2 ^ k ≤ 65536
+power-most k h = pow-le-pow-right {n = 2} (lit≤ tt) h
 
 -- a power of two from 4 on is a multiple of 4
 pub power-fours : (k : ℕ) → 2 ≤ k → 2 ^ k ≡ 4 * 2 ^ (k - 2)

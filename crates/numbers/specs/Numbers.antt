@@ -18,6 +18,10 @@ bytes Byte = 1
 bytes Word = 2
 bytes Long = 4
 
+-- a number is a multiple of w
+abbrev pub isMultiple : ℕ → ℕ → Bool
+isMultiple n w = eqb (n % w) 0
+
 -- the number of the w bytes of f from a place, least byte first
 unfoldable pub little : ℕ → (ℕ → ℕ) → ℕ → ℕ
 little zero f at = 0

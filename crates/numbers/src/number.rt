@@ -1,10 +1,9 @@
 // Bytes and the numbers that they make: total readers, 0 past the end, and powers of two.
 ghost use mathlib.Core.Path.{_≡_};
 ghost use Prim.Native.Nat.{_+_, _*_, _%_, _^_, _<_, _≤_};
-ghost use lib.Dec.{eqb};
 ghost use lib.ListN.{getD, set};
 ghost use lib.Seq.{sets};
-ghost use Rattle.numbers.specs.Numbers.{byteAt, bytes, little, big, bigBytes, reversed, power, bits};
+ghost use Rattle.numbers.specs.Numbers.{byteAt, bytes, isMultiple, little, big, bigBytes, reversed, power, bits};
 
 // How many bytes an access or a number has: 1, 2 or 4.
 pub enum Width {
@@ -44,13 +43,20 @@ pub fn bytes_by_shift(width: Width) -> u32
 
 // Whether a number is a multiple of a width.
 pub fn is_multiple(n: u32, width: Width) -> bool
-    ensures { λ r. ⌜ r ≡ eqb (n % bytes width) 0 ⌝ }
+    ensures { λ r. ⌜ r ≡ isMultiple n (bytes width) ⌝ }
 {
     match width {
         Width::Byte => true,
         Width::Word => n % 2 == 0,
         Width::Long => n % 4 == 0,
     }
+}
+
+// The same without a branch, for data calls. Configuration calls took a tenth longer with it: from the branches the compiler makes a way of its own for each width.
+pub fn is_multiple_by_shift(n: u32, width: Width) -> bool
+    ensures { λ r. ⌜ r ≡ isMultiple n (bytes width) ⌝ }
+{
+    n % bytes_by_shift(width) == 0
 }
 
 // The byte at a place, 0 past the end.

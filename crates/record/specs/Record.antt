@@ -3,7 +3,7 @@ use Prim.Native.Nat.{ℕ, _+_, _*_, _%_, _^_}
 use mathlib.Core.Bool.{Bool, not, _&&_}
 use mathlib.Core.List.{List}
 use lib.Dec.{leb, eqb}
-use Rattle.numbers.specs.Numbers.{byteAt, little, big}
+use Rattle.numbers.specs.Numbers.{byteAt, isMultiple, little, big}
 use Rattle.board.specs.Layout.{masksAt, entriesAt, entrySize, offsetAt, baseRegister}
 use Rattle.window_entry.specs.declared.entry.Entry.{Entry}
 use Rattle.window_entry.specs.Entry.{entryOk}
@@ -55,7 +55,7 @@ entriesOk r =
 
 -- the offset is a multiple of 4
 abbrev pub offsetOk : List ℕ → Bool
-offsetOk r = eqb (big 4 (byteAt r) offsetAt % 4) 0
+offsetOk r = isMultiple (big 4 (byteAt r) offsetAt) 4
 
 unfoldable pub recordOk : List ℕ → Bool
 recordOk r = vendorOk r && (headerTypeOk r && (pinOk r && (masksOk r && (romOk r && (entriesOk r && offsetOk r)))))

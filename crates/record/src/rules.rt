@@ -7,6 +7,7 @@ use board::layout::OFFSET;
 use numbers::number::Width;
 use numbers::number::big_at;
 use numbers::number::byte_at;
+use numbers::number::is_multiple;
 use numbers::number::little_at;
 use window_entry::entry::Entry;
 use window_entry::entry::entry_ok;
@@ -84,7 +85,7 @@ fn entries_ok(r: &[u8]) -> bool
 fn offset_ok(r: &[u8]) -> bool
     ensures { λ ok. ⌜ ok ≡ offsetOk (now (r .entry)) ⌝ }
 {
-    big_at(r, OFFSET as usize, Width::Long) % 4 == 0
+    is_multiple(big_at(r, OFFSET as usize, Width::Long), Width::Long)
 }
 
 // Whether the bytes of a record keep every rule.

@@ -18,7 +18,7 @@ use Rattle.data_cells.specs.Cells.{placeOf, dataPlace}
 use Rattle.find_window.specs.Find.{spaceNumber, holds, offers, inList, find, findIn}
 use Rattle.byte_order.specs.Orders.{placed}
 use Rattle.find_window.specs.declared.find.Finding.{Finding}
-use Rattle.find_window.specs.declared.find.Finding.the-variants.{Found, BadHandle, ShortCells, NotAligned, Nothing, Contested, WidthMissing}
+use Rattle.find_window.specs.declared.find.Finding.the-variants.{Found, Refused as NoWindow}
 use Rattle.find_window.specs.declared.find.Space.{Space}
 use Rattle.find_window.proofs.Searches.{held}
 use Rattle.cells.specs.Cells.{offsetsOf}
@@ -75,12 +75,7 @@ module _ (b : Reference) (s : Sound b) where
             (omega (arith, v .inside o, cell-ranges k .apart n windowsMax there (omega arith), cell-ranges k .last, s .fits)),
         offset-at k n (omega arith),
       )
-  place-found width space handle address BadHandle e = refl
-  place-found width space handle address ShortCells e = refl
-  place-found width space handle address NotAligned e = refl
-  place-found width space handle address Nothing e = refl
-  place-found width space handle address Contested e = refl
-  place-found width space handle address WidthMissing e = refl
+  place-found width space handle address (NoWindow r) e = refl
 
   place-same : (width : Width) (space handle address : ℕ)
       → (let p = partsOf b in dataPlace (bytes width) (p .header) (p .records) (p .windows) (p .cellOffsets) (length (p .cells)) space handle address)

@@ -14,17 +14,18 @@ use Rattle.numbers.specs.declared.number.Width.{Width}
 use Rattle.numbers.specs.declared.number.Width.the-variants.{Byte, Word, Long}
 use Rattle.numbers.proofs.Numbers.{power-fours}
 use Rattle.numbers.proofs.Tests.{both-true}
-use Rattle.window.specs.Window.{Window, startOf, isOpen}
+use Rattle.window.specs.Window.{Window, startOf, isWindow, windowLength, isOpen}
+use Rattle.window.proofs.Exponents.{window-range}
 use Rattle.window_list.specs.Meaning.{OpenAt}
 use Rattle.window_list.proofs.Meaning.{means}
 use Rattle.byte_order.specs.Orders.{placed}
 use Rattle.find_window.specs.declared.find.Finding.{Finding}
-use Rattle.find_window.specs.declared.find.Finding.the-variants.{Found, BadHandle, ShortCells, NotAligned, Nothing, Contested, WidthMissing}
+use Rattle.find_window.specs.declared.find.Finding.the-variants.{Found, Refused as NoWindow}
 use Rattle.data_cells.specs.declared.place.Place.the-variants.{At}
 use Rattle.find_window.proofs.Searches.{Held, held}
 use Rattle.find_window.proofs.Meaning.{found-means}
 use Rattle.byte_order.proofs.Windows.{inside-window}
-use Rattle.cells.specs.Cells.{cellCount, slotCells, cellsBefore}
+use Rattle.cells.specs.Cells.{slotCells, cellsBefore}
 use Rattle.reference.specs.Reference.{Reference, entryOf, exponentOf, windowsOf, findFor, placeIn, placeFor}
 
 -- an accepted access lies in the cells of one window of its function
@@ -56,7 +57,7 @@ start-fours k x h =
     omega (arith, split x k, p)
 
 -- the cells of base register c of the function at place i
-slot-of : (k : ℕ → ℕ → ℕ) (i c : ℕ) → c < bases → slotCells k (bases * i + c) ≡ cellCount (k i c)
+slot-of : (k : ℕ → ℕ → ℕ) (i c : ℕ) → c < bases → slotCells k (bases * i + c) ≡ windowLength (k i c)
 slot-of k i c h =
     let q : (bases * i + c) / bases ≡ i = omega arith in
     let m : (bases * i + c) % bases ≡ c = omega arith in
@@ -64,13 +65,12 @@ slot-of k i c h =
 
 -- an aligned address of an open window
 inside-open : (width : Width) (order k x c address : ℕ) → isOpen k x c ≡ true → startOf k x ≤ address → address < startOf k x + 2 ^ k
-    → address % bytes width ≡ 0 → placed order (bytes width) (address - startOf k x) + bytes width ≤ cellCount k
+    → address % bytes width ≡ 0 → placed order (bytes width) (address - startOf k x) + bytes width ≤ windowLength k
 inside-open width order k x c address o l h a =
-    let low = both-true (leb 2 k) _ o in
-    let high = both-true (leb k 16) _ (low .1) in
-    let two = leb-true 2 k (low .0) in
+    let w = both-true (isWindow k) _ o .0 in
+    let two = window-range k w .0 in
     let d : (address - startOf k x) % bytes width ≡ 0 = rw (start-fours k x two) (aligned width address _ a) in
-    rw (low .0, high .0) (inside-window order width k (address - startOf k x) two (omega arith) d)
+    rw w (inside-window order width k (address - startOf k x) two (omega arith) d)
 
 window-inside : (width : Width) (order count : ℕ) (k r : ℕ → ℕ → ℕ) (v : Window) (handle address : ℕ) → OpenAt count k r v → Held handle address v
     → address % bytes width ≡ 0 → placed order (bytes width) (address - v .start) + bytes width ≤ slotCells k (bases * (handle - 1) + v .base)
@@ -119,9 +119,4 @@ in-slot b width space handle address at order e = by (findFor b (bytes width) sp
           place = cc h;
           inside = w .inside o;
         }
-    by BadHandle g h = absurd (false≢true (cc h))
-    by ShortCells g h = absurd (false≢true (cc h))
-    by NotAligned g h = absurd (false≢true (cc h))
-    by Nothing g h = absurd (false≢true (cc h))
-    by Contested g h = absurd (false≢true (cc h))
-    by WidthMissing g h = absurd (false≢true (cc h))
+    by (NoWindow r) g h = absurd (false≢true (cc h))

@@ -29,7 +29,7 @@ hidden {h} {b} {d} l w handle value own q (At at order) s =
       rest = l .rest;
       others = others-hidden b (b .cells) (d .cells) (l .others) w handle at order (s at order refl) value q;
     }
-hidden l w handle value own q (NoPlace n) s = l
+hidden l w handle value own q (NoPlace r) s = l
 
 pub quiet : {h : ℕ} {b d : Reference} → Like h b d → (c : Call) (own : List ℕ) → struckOut h c ≡ true
     → Like h (referenceStep b c own .reference) d

@@ -1,6 +1,5 @@
 -- Claim 1: a refused call changes nothing and gives a stated number and the filler.
 use Prim.Native.Nat.{ℕ}
-use mathlib.Core.Bool.{false≢true}
 use mathlib.Core.Logic.{inl, inr}
 use mathlib.Core.Path.{_≡_, refl}
 use mathlib.Core.List.{List}
@@ -10,7 +9,6 @@ use Rattle.board.specs.Parts.{Parts, withRegisters}
 use Rattle.board.specs.Layout.{windowsMax}
 use Rattle.board.specs.declared.address.BusAddress.{BusAddress}
 use Rattle.numbers.specs.declared.number.Width.{Width}
-use Rattle.board.specs.declared.status.Status.{Status}
 use Rattle.numbers.specs.Numbers.{bytes}
 use Rattle.board.specs.Statuses.{badRegisterNumber, badHandle}
 use Rattle.board.specs.Handles.{functionCount, isHandle}
@@ -18,24 +16,22 @@ use Rattle.config_read.specs.Target.{target}
 use Rattle.config_read.specs.declared.target.Target.{Target}
 use Rattle.config_read.specs.declared.target.Target.the-variants.{Function, Refused}
 use Rattle.config.specs.Write.{writeConfig}
-use Rattle.data_cells.specs.Cells.{placeOf, dataPlace}
-use Rattle.find_window.specs.Find.{spaceNumber}
-use Rattle.find_window.specs.declared.find.Finding.{Finding}
-use Rattle.find_window.specs.declared.find.Finding.the-variants.{Found, BadHandle, ShortCells, NotAligned, Nothing, Contested, WidthMissing}
+use Rattle.data_cells.specs.Cells.{dataPlace}
+use Rattle.find_window.specs.Find.{spaceNumber, statusOf}
+use Rattle.find_window.specs.declared.refusal.Refusal.{Refusal as DataRefusal}
+use Rattle.find_window.specs.declared.refusal.Refusal.the-variants.{BadHandle, ShortCells, NotAligned, Nothing, Contested, WidthMissing, PastBuffer}
 use Rattle.find_window.specs.declared.find.Space.{Space}
 use Rattle.data_cells.specs.declared.place.Place.{Place}
-use Rattle.data_cells.specs.declared.place.Place.the-variants.{At, Refused as NoPlace}
 use Rattle.image_format.specs.Image.{imageSize}
 use Rattle.reset.specs.Reset.{reset}
 use Rattle.load.specs.Load.{load}
 use Rattle.image_writer.specs.Write.{write}
-use Rattle.call.specs.declared.call.Call.{Call}
 use Rattle.call.specs.declared.call.Access.the-variants.{Read, FastRead, Write}
 use Rattle.call.specs.declared.call.Call.the-variants.{Load, Reset, WriteImage, Config, Data, GetResource, HookInterrupt, UnhookInterrupt, SetCardUsed, Ask}
 use Rattle.call.specs.Answers.{ofStatus}
 use Rattle.reference.specs.State.{next, blanked, step}
 use Rattle.reference.specs.Claims.{dataRefusals, Among, Refusal}
-use Rattle.reference.proofs.Tests.{ifTest, ifEither, ifTarget, ifAt}
+use Rattle.reference.proofs.Tests.{ifEither, ifTarget, ifAt}
 use Rattle.reference.proofs.Verdicts.{stated, ifVerdict}
 use Rattle.reference.proofs.Refused.{Kept, not-refused, untouched, kept-resource, kept-hook, kept-unhook, kept-set-used}
 use Rattle.reference.proofs.QueryRefused.{query-stated}
@@ -65,23 +61,15 @@ abbrev placeAt : Parts → Space → Width → ℕ → BusAddress → Place
 placeAt p space width handle address =
     dataPlace (bytes width) (p .header) (p .records) (p .windows) (p .cellOffsets) (length (p .cells)) (spaceNumber space) handle (address .0)
 
-place-stated : (begins orders : ℕ → ℕ) (room w : ℕ) (f : Finding) (s : Status) → placeOf begins orders room w f ≡ NoPlace s → Among (s .0) dataRefusals
-unfolding placeOf
-place-stated begins orders room w (Found base distance remaining) s e =
-    ifTest (λ (q : Place). q ≡ NoPlace s → Among (s .0) dataRefusals) (ltb room _) (λ t h. inr (inl (cc h))) (λ t h. absurd (false≢true (cc h))) e
-place-stated begins orders room w BadHandle s e = inl (cc e)
-place-stated begins orders room w ShortCells s e = inr (inl (cc e))
-place-stated begins orders room w NotAligned s e = inr (inr (inl (cc e)))
-place-stated begins orders room w Nothing s e = inr (inr (inl (cc e)))
-place-stated begins orders room w Contested s e = inr (inr (inl (cc e)))
-place-stated begins orders room w WidthMissing s e = inr (inr (inr (inl (cc e))))
-
--- it stands at cells, or is refused with one of the stated numbers
-ifPlace : {X : Type 0} (p : Parts) (space : Space) (width : Width) (handle : ℕ) (address : BusAddress)
-    → ((at order : ℕ) → placeAt p space width handle address ≡ At at order → X)
-    → ((s : Status) → Among (s .0) dataRefusals → placeAt p space width handle address ≡ NoPlace s → X) → X
-ifPlace p space width handle address f r =
-    ifAt (placeAt p space width handle address) f (λ s e. r s (place-stated _ _ _ _ _ s e) e)
+-- it is refused with one of the stated numbers
+data-stated : (r : DataRefusal) → Among (statusOf r .0) dataRefusals
+data-stated BadHandle = inl refl
+data-stated ShortCells = inr (inl refl)
+data-stated NotAligned = inr (inr (inl refl))
+data-stated Nothing = inr (inr (inl refl))
+data-stated Contested = inr (inr (inl refl))
+data-stated WidthMissing = inr (inr (inr (inl refl)))
+data-stated PastBuffer = inr (inl refl)
 
 pub refusal : Refusal
 unfolding step load reset write
@@ -109,14 +97,14 @@ refusal p (Config width handle register FastRead) own =
     (λ e. rw e (λ f. untouched (inl refl) refl))
 refusal p (Config width handle register (Write value)) own = write-kept p own width _ handle register value
 refusal p (Data space width handle address Read) own =
-    ifPlace p space width handle address (λ at order e. rw e (λ f. not-refused f))
-    (λ s a e. rw e (λ f. untouched a refl))
+    ifAt (placeAt p space width handle address) (λ at order e. rw e (λ f. not-refused f))
+    (λ r e. rw e (λ f. untouched (data-stated r) refl))
 refusal p (Data space width handle address FastRead) own =
-    ifPlace p space width handle address (λ at order e. rw e (λ f. not-refused f))
-    (λ s a e. rw e (λ f. untouched (inl refl) refl))
+    ifAt (placeAt p space width handle address) (λ at order e. rw e (λ f. not-refused f))
+    (λ r e. rw e (λ f. untouched (inl refl) refl))
 refusal p (Data space width handle address (Write value)) own =
-    ifPlace p space width handle address (λ at order e. rw e (λ f. not-refused f))
-    (λ s a e. rw e (λ f. untouched a refl))
+    ifAt (placeAt p space width handle address) (λ at order e. rw e (λ f. not-refused f))
+    (λ r e. rw e (λ f. untouched (data-stated r) refl))
 refusal p (GetResource handle) own = kept-resource p own handle
 refusal p (HookInterrupt handle handler parameter) own = kept-hook p own handle handler parameter
 refusal p (UnhookInterrupt handle) own = kept-unhook p own handle

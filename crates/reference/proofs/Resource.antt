@@ -8,7 +8,8 @@ use lib.ListN.{length}
 use Rattle.board.specs.Handles.{isHandle}
 use Rattle.board.specs.Layout.{bases, entriesAt, entrySize, offsetAt, dmaOffsetAt}
 use Rattle.window_list.proofs.KeptArray.{kept-of}
-use Rattle.resource.specs.Resource.{isWindow, windowsFrom, windowBases, Source, descriptorOf, described, Gave, resource, sourceOf}
+use Rattle.window.specs.Window.{isWindow}
+use Rattle.resource.specs.Resource.{windowsFrom, windowBases, Source, descriptorOf, described, Gave, resource, sourceOf}
 use Rattle.call.specs.declared.call.Call.the-variants.{GetResource}
 use Rattle.call.specs.Answers.{ofStatus}
 use Rattle.reference.specs.State.{step}

@@ -13,7 +13,7 @@ use Rattle.config_read.specs.declared.target.Target.the-variants.{Function, Ref
 use Rattle.access.specs.Data.{readAt, fastReadAt}
 use Rattle.find_window.specs.Find.{spaceNumber}
 use Rattle.find_window.specs.declared.find.Finding.{Finding}
-use Rattle.find_window.specs.declared.find.Finding.the-variants.{Found, BadHandle, ShortCells, NotAligned, Nothing, Contested, WidthMissing}
+use Rattle.find_window.specs.declared.find.Finding.the-variants.{Found, Refused as NoWindow}
 use Rattle.data_cells.specs.declared.place.Place.{Place}
 use Rattle.data_cells.specs.declared.place.Place.the-variants.{At, Refused as NoPlace}
 use Rattle.hooks.specs.Hooks.{Hook, isRouted}
@@ -80,24 +80,19 @@ module _ {h : ℕ} (b : Reference) (m : List ℕ) (l : Like h b (withCellsOf m b
   place-same : (w handle : ℕ) (f : Finding) → placeIn (withCellsOf m b) w handle f ≡ placeIn b w handle f
   unfolding placeIn
   place-same w handle (Found base distance remaining) = refl
-  place-same w handle BadHandle = refl
-  place-same w handle ShortCells = refl
-  place-same w handle NotAligned = refl
-  place-same w handle Nothing = refl
-  place-same w handle Contested = refl
-  place-same w handle WidthMissing = refl
+  place-same w handle (NoWindow r) = refl
 
   -- a read and a fast read through another handle
   reads : (w handle : ℕ) → (handle ≡ h → ⊥) → (p : Place) → Lies b w handle p
       → (readAt w (b .cells) p ≡ readAt w m p) × (fastReadAt w (b .cells) p ≡ fastReadAt w m p)
   reads w handle n (At at order) s =
       let v = value-same b (b .cells) m (l .others) w handle at order (s at order refl) n in (rw v, rw v)
-  reads w handle n (NoPlace z) s = (refl, refl)
+  reads w handle n (NoPlace r) s = (refl, refl)
 
   seen-write : (w value : ℕ) (p : Place) → Both h (writeDataOf b w value own p) (writeDataOf (withCellsOf m b) w value own p)
   seen-write w value (At at order) =
       both-told (record { few = l .few; rest = refl; others = others-written (b .records) (b .cells) m order w at value (l .others) })
-  seen-write w value (NoPlace s) = both-told l
+  seen-write w value (NoPlace r) = both-told l
 
   -- another chain or mark in both
   like-chain : (line : ℕ) (chain : List Hook) → Like h (withChainOf line chain b) (withChainOf line chain (withCellsOf m b))

@@ -1,17 +1,18 @@
 -- A choice taken apart: of one term, of two terms that make the same test or tests that come out alike, of a test by itself, of what a configuration access is for, and of where a data access stands.
-use Prim.Native.Nat.{ℕ, _+_, _-_, _%_, _<_, _≤_}
+use Prim.Native.Nat.{ℕ, _+_, _-_, _<_, _≤_}
 use native.Mathlib.Omega.{arith}
 use mathlib.Core.Bool.{Bool, true, false, cond, _&&_}
 use mathlib.Core.Path.{_≡_, refl}
-use lib.Dec.{eqb, leb}
+use lib.Dec.{leb}
 use borrow.Author.Tests.{leb-true}
 use Rattle.board.specs.Layout.{registersEach}
 use Rattle.board.specs.Statuses.{badRegisterNumber, badHandle}
-use Rattle.board.specs.declared.status.Status.{Status}
+use Rattle.numbers.specs.Numbers.{isMultiple}
 use Rattle.numbers.proofs.Tests.{both-true}
 use Rattle.config_read.specs.Target.{fits, target}
 use Rattle.config_read.specs.declared.target.Target.{Target}
 use Rattle.config_read.specs.declared.target.Target.the-variants.{Function, Refused}
+use Rattle.find_window.specs.declared.refusal.Refusal.{Refusal}
 use Rattle.data_cells.specs.declared.place.Place.{Place}
 use Rattle.data_cells.specs.declared.place.Place.the-variants.{At, Refused as NoPlace}
 
@@ -46,11 +47,11 @@ ifTarget P count w handle register f r h =
     let low = leb-true 1 handle (both-true (leb 1 handle) (leb handle count) e .0) in
     let high = leb-true handle count (both-true (leb 1 handle) (leb handle count) e .1) in
     ifTest P (fits w register)
-    (λ g. f (handle - 1) (omega arith) (omega arith) (leb-true (register + w) registersEach (both-true (eqb (register % w) 0) (leb (register + w) registersEach) g .1)))
+    (λ g. f (handle - 1) (omega arith) (omega arith) (leb-true (register + w) registersEach (both-true (isMultiple register w) (leb (register + w) registersEach) g .1)))
     (λ g. r))
     (λ e. h)
 
 -- a data access stands at cells or is refused
-pub ifAt : {X : Type 0} (q : Place) → ((at order : ℕ) → q ≡ At at order → X) → ((s : Status) → q ≡ NoPlace s → X) → X
+pub ifAt : {X : Type 0} (q : Place) → ((at order : ℕ) → q ≡ At at order → X) → ((r : Refusal) → q ≡ NoPlace r → X) → X
 ifAt (At at order) f r = f at order refl
-ifAt (NoPlace s) f r = r s refl
+ifAt (NoPlace r) f g = g r refl

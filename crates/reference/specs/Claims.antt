@@ -139,7 +139,7 @@ addressed w handle register j =
 -- place j of the cell buffer is one of the w cells of an access
 abbrev pub accessed : ℕ → Place → ℕ → Bool
 accessed w (At at order) j = leb at j && ltb j (at + w)
-accessed w (Refused s) j = false
+accessed w (Refused r) j = false
 
 abbrev pub nothing : Touch
 nothing = touch none false none false false none none none

@@ -23,7 +23,7 @@ use Rattle.access.specs.Data.{readAt, fastReadAt}
 use Rattle.find_window.specs.Find.{spaceNumber, offers, find, statusOf}
 use Rattle.byte_order.specs.Orders.{placed}
 use Rattle.find_window.specs.declared.find.Finding.{Finding}
-use Rattle.find_window.specs.declared.find.Finding.the-variants.{Found, BadHandle, ShortCells, NotAligned, Nothing, Contested, WidthMissing}
+use Rattle.find_window.specs.declared.find.Finding.the-variants.{Found, Refused as NoWindow}
 use Rattle.data_cells.specs.declared.place.Place.{Place}
 use Rattle.data_cells.specs.declared.place.Place.the-variants.{At, Refused as NoPlace}
 use Rattle.resource.specs.Resource.{Source, resource}
@@ -140,12 +140,7 @@ unfoldable pub placeIn : Reference → ℕ → ℕ → Finding → Place
 placeIn b w handle (Found base distance remaining) =
     let order = entryOf (b .records) (handle - 1) base 1 in
     At (cellsBefore (exponentOf (b .records)) (bases * (handle - 1) + base) + placed order w distance) order
-placeIn b w handle BadHandle = NoPlace (statusOf BadHandle)
-placeIn b w handle ShortCells = NoPlace (statusOf ShortCells)
-placeIn b w handle NotAligned = NoPlace (statusOf NotAligned)
-placeIn b w handle Nothing = NoPlace (statusOf Nothing)
-placeIn b w handle Contested = NoPlace (statusOf Contested)
-placeIn b w handle WidthMissing = NoPlace (statusOf WidthMissing)
+placeIn b w handle (NoWindow r) = NoPlace r
 
 abbrev pub placeFor : Reference → ℕ → ℕ → ℕ → ℕ → Place
 placeFor b w space handle address = placeIn b w handle (findFor b w space handle address)
@@ -206,7 +201,7 @@ writeOf b w register value own (Refused s) = told (ofStatus s) b own
 
 abbrev pub writeDataOf : Reference → ℕ → ℕ → List ℕ → Place → Told
 writeDataOf b w value own (At at order) = told (ofStatus successful) (withCellsOf (cellsAfter order w at value (b .cells)) b) own
-writeDataOf b w value own (NoPlace s) = told (ofStatus s) b own
+writeDataOf b w value own (NoPlace r) = told (ofStatus (statusOf r)) b own
 
 -- the board as a query sees it: of the cells how many there are, and no byte
 abbrev pub blankedOf : Reference → Reference

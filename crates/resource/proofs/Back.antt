@@ -16,10 +16,11 @@ use Rattle.numbers.proofs.Tables.{table-length}
 use Rattle.window.specs.Window.{spaceOf}
 use Rattle.descriptor.specs.declared.descriptor.Descriptor.{Descriptor}
 use Rattle.descriptor.specs.Descriptor.{flags, descriptorBytes, fieldsAt}
-use Rattle.resource.specs.Resource.{isWindow, descriptorOf, sourceOf}
+use Rattle.window.specs.Window.{isWindow}
+use Rattle.resource.specs.Resource.{descriptorOf, sourceOf}
 use Rattle.shown_start.proofs.Starts.{start-small}
 use Rattle.descriptor.proofs.Fields.{shown-small}
-use Rattle.resource.proofs.Turns.{window-small}
+use Rattle.window.proofs.Exponents.{window-range}
 
 -- a number of w bytes in a list, m places after others
 field : (w v m : ℕ) (l before mid after : List ℕ) → v < 256 ^ w → length mid ≡ m → l ≡ before ++ (mid ++ (bigBytes w v ++ after))
@@ -82,7 +83,7 @@ parts-small records registers windows handle last b t =
       next = omega arith;
       flags = flags-small last (eqb (spaceOf (s .register b)) 1) (s .widths b) (s .order b);
       start = start-small windows handle b;
-      length = omega (arith, pow-mono {i = exponent records (handle - 1) b} (window-small _ t));
+      length = omega (arith, pow-mono {i = exponent records (handle - 1) b} (window-range _ t .1));
       offset = big-below 4 _ _;
       dmaoffset = big-below 4 _ _;
     }

@@ -5,7 +5,8 @@ use mathlib.Core.Bool.{Bool, true, false, cond}
 use mathlib.Core.List.{_∷_}
 use mathlib.Core.Path.{_≡_, refl}
 use Rattle.board.specs.Layout.{bases}
-use Rattle.resource.specs.Resource.{isWindow, windowsFrom, Source, descriptorOf, described, resource}
+use Rattle.window.specs.Window.{isWindow}
+use Rattle.resource.specs.Resource.{windowsFrom, Source, descriptorOf, described, resource}
 use Rattle.resource.specs.Meaning.{Alike, ResourceDependsOn}
 
 module _ (s t : Source) (a : Alike s t) where

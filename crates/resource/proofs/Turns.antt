@@ -4,19 +4,15 @@ use native.Mathlib.Omega.{arith}
 use mathlib.Core.Bool.{Bool, true, false, cond}
 use mathlib.Core.List.{List, [], _∷_}
 use mathlib.Core.Path.{_≡_, refl, sym, _∙_}
-use lib.Dec.{eqb, leb}
+use lib.Dec.{eqb}
 use lib.ListN.{length}
 use lib.Seq.{sets}
-use borrow.Author.Tests.{eq-eqb, ne-eqb, leb-true}
-use Rattle.numbers.proofs.Tests.{both-true}
+use borrow.Author.Tests.{eq-eqb, ne-eqb}
 use Rattle.board.specs.Layout.{bases}
 use Rattle.descriptor.specs.Descriptor.{size, descriptorBytes, bytesOf}
-use Rattle.resource.specs.Resource.{isWindow, windowsFrom, Source, descriptorOf, described}
+use Rattle.window.specs.Window.{isWindow}
+use Rattle.resource.specs.Resource.{windowsFrom, Source, descriptorOf, described}
 use Rattle.descriptor.proofs.Fields.{after, bytes-size}
-
--- the exponent of a window
-pub window-small : (k : ℕ) → isWindow k ≡ true → k ≤ 16
-window-small k e = leb-true k 16 (both-true (leb 2 k) _ e .1)
 
 module _ (k : ℕ → ℕ) (b : ℕ) where
   -- base register b has a window, or has none; or there is none

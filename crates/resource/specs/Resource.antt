@@ -1,8 +1,8 @@
 -- The descriptors of a function's windows: document 01, "Descriptors" and "Numbers handed back", Resource.
 use Prim.Native.Nat.{ℕ, zero, suc, _+_, _-_, _*_, _^_}
-use mathlib.Core.Bool.{Bool, cond, _&&_}
+use mathlib.Core.Bool.{Bool, cond}
 use mathlib.Core.List.{List, [], _∷_}
-use lib.Dec.{eqb, leb, ltb}
+use lib.Dec.{eqb, ltb}
 use lib.ListN.{length}
 use lib.Seq.{sets}
 use Rattle.board.specs.Handles.{isHandle}
@@ -10,14 +10,10 @@ use Rattle.board.specs.Layout.{bases, exponent, byteOrder, widths, offset, dmaO
 use Rattle.board.specs.Statuses.{successful, bufferTooSmall, generalError, badHandle}
 use Rattle.board.specs.declared.status.Status.{Status}
 use Rattle.window.specs.Kept.{unpacked}
-use Rattle.window.specs.Window.{Window, spaceOf}
+use Rattle.window.specs.Window.{Window, spaceOf, isWindow}
 use Rattle.shown_start.specs.Start.{startIn}
 use Rattle.descriptor.specs.declared.descriptor.Descriptor.{Descriptor}
 use Rattle.descriptor.specs.Descriptor.{size, flags, bytesOf}
-
--- an exponent outside 2..16 is no window
-abbrev pub isWindow : ℕ → Bool
-isWindow k = leb 2 k && leb k 16
 
 -- of n base registers from b on, those that have a window; k is their length exponent
 unfoldable pub windowsFrom : (ℕ → ℕ) → ℕ → ℕ → List ℕ

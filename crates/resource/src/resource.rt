@@ -18,23 +18,18 @@ use descriptor::descriptor::NEXT;
 use descriptor::descriptor::SIZE;
 use descriptor::descriptor::flags;
 use descriptor::descriptor::put;
-use numbers::number::power;
 use shown_start::start::start_in;
+use window::decode::is_window;
+use window::decode::window_length;
 ghost use mathlib.Core.Bool.{true};
 ghost use mathlib.Core.Path.{_≡_};
 ghost use lib.ListN.{length};
 ghost use lib.Seq.{sets};
-ghost use Prim.Native.Nat.{_-_, _^_, _≤_};
+ghost use Prim.Native.Nat.{_-_};
 ghost use Rattle.board.specs.Layout.{exponent};
+ghost use Rattle.window.specs.Window.{isWindow};
 ghost use Rattle.descriptor.specs.Descriptor.{bytesOf};
-ghost use Rattle.resource.specs.Resource.{isWindow, windowBases, descriptorOf, descriptors, sourceOf, gave, getResource};
-
-// Whether a length exponent is a window's.
-fn is_window(k: u8) -> bool
-    ensures { λ r. ⌜ r ≡ isWindow k ⌝ }
-{
-    (2 <= k) & (k <= 16)
-}
+ghost use Rattle.resource.specs.Resource.{windowBases, descriptorOf, descriptors, sourceOf, gave, getResource};
 
 // How many windows a function has.
 fn window_count(records: &Records, function: u32) -> usize
@@ -51,14 +46,6 @@ fn window_count(records: &Records, function: u32) -> usize
         n += 1;
     }
     n
-}
-
-// A window's length.
-fn length(k: u8) -> u32
-    requires { ⌜ k ≤ 16 ⌝ }
-    ensures { λ r. ⌜ r ≡ 2 ^ k ⌝ }
-{
-    power(k as u32) as u32
 }
 
 // The descriptor of the window of a base register.
@@ -85,7 +72,7 @@ fn descriptor_of(
             byte_order(records, function, base),
         ),
         start: start,
-        length: length(exponent(records, function, base)),
+        length: window_length(exponent(records, function, base)),
         offset: offset(records, function),
         dmaoffset: dma_offset(records, function),
     }

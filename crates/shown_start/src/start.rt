@@ -2,7 +2,7 @@
 use window::kept::base_of;
 use window::kept::handle_of;
 use window::kept::is_contested;
-use window::kept::length_of;
+use window::kept::is_end;
 use window::kept::start_of;
 ghost use mathlib.Core.Path.{_≡_};
 ghost use Rattle.window.specs.Kept.{unpack, unpacked};
@@ -33,7 +33,7 @@ pub fn start_in(list: &[u64], handle: u32, base: u8) -> u32
     let mut j = 0;
     while j < list.len() {
         let w = list[j];
-        if length_of(w) == 0 {
+        if is_end(w) {
             return 0;
         }
         if is_of(w, handle, base) {

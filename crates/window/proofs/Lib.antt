@@ -1,2 +1,3 @@
--- Laws of kept numbers that the crates above cite.
+-- Laws of windows and kept numbers that the crates above cite.
+pub mod Exponents
 pub mod Unpacked

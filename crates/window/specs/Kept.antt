@@ -1,6 +1,6 @@
 -- A kept number: one window in one number.
 use Prim.Native.Nat.{ℕ, _+_, _*_, _/_, _%_, _^_}
-use mathlib.Core.Bool.{cond}
+use mathlib.Core.Bool.{Bool, cond}
 use mathlib.Core.List.{List, [], _∷_}
 use lib.Dec.{eqb}
 use Rattle.window.specs.Window.{Window}
@@ -34,7 +34,11 @@ begins n = n / 2 ^ 26
 abbrev pub ends : ℕ → ℕ
 ends n = n / 2 ^ 26 + n / 2 % 2 ^ 17
 
--- the windows of a kept list: those before the first number of length 0, which is no window
+-- a number of length 0 is no window, and ends the kept list
+abbrev pub isEnd : ℕ → Bool
+isEnd n = eqb (unpack n .length) 0
+
+-- the windows of a kept list: those before its end
 unfoldable pub unpacked : List ℕ → List Window
 unpacked [] = []
-unpacked (n ∷ l) = cond (eqb (unpack n .length) 0) [] (unpack n ∷ unpacked l)
+unpacked (n ∷ l) = cond (isEnd n) [] (unpack n ∷ unpacked l)

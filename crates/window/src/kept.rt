@@ -2,8 +2,7 @@
 ghost use mathlib.Core.Path.{_≡_};
 ghost use lib.Dec.{eqb};
 ghost use Prim.Native.Nat.{_+_, _*_, _^_, _<_, _≤_};
-ghost use Rattle.window.specs.Kept.{unpack};
-ghost use Rattle.window.specs.Kept.{begins, ends};
+ghost use Rattle.window.specs.Kept.{unpack, isEnd, begins, ends};
 
 // How many values each field has, from the lowest: contested, length, base register, handle, start.
 const MARKS: u64 = 2;
@@ -53,6 +52,13 @@ pub fn length_of(w: u64) -> u32
     ensures { λ r. ⌜ r ≡ unpack w .length ⌝ }
 {
     (w / MARKS % LENGTHS) as u32
+}
+
+// Whether a number ends the kept list: it is no window, so its length is 0.
+pub fn is_end(w: u64) -> bool
+    ensures { λ r. ⌜ r ≡ isEnd w ⌝ }
+{
+    length_of(w) == 0
 }
 
 pub fn handle_of(w: u64) -> u32

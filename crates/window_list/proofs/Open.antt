@@ -3,8 +3,6 @@ use Prim.Native.Nat.{ℕ, zero, suc, _+_, _-_, _*_, _/_, _%_, _^_, _≤_, _<_}
 use native.Mathlib.Nat.{mul-le-mul-right, suc-mul, pow-le-pow-right}
 use native.Mathlib.Omega.{arith}
 use lib.Pow.{pow-pos, pow-add, shr-lt, split}
-use lib.Dec.{leb}
-use borrow.Author.Tests.{leb-true}
 use mathlib.Core.Bool.{Bool, true, false, cond, false≢true}
 use mathlib.Core.Logic.{_↔_, inl, inr, ⊎-elim}
 use mathlib.Core.Path.{_≡_, refl, ap, sym, _∙_}
@@ -12,7 +10,8 @@ use mathlib.Core.List.{List, [], _∷_, _++_}
 use Rattle.board.specs.Layout.{command, baseRegister}
 use Rattle.numbers.proofs.Numbers.{little-below}
 use Rattle.numbers.proofs.Tests.{both-true}
-use Rattle.window.specs.Window.{Window, end, startOf, isOpen, windowOf}
+use Rattle.window.specs.Window.{Window, end, startOf, isWindow, isOpen, windowOf}
+use Rattle.window.proofs.Exponents.{window-range}
 use Rattle.window_list.specs.Windows.{windowAt, gather, openWindows, another, withMark}
 use Rattle.window.specs.Window.{In}
 use Rattle.window_list.specs.Meaning.{Every, OpenAt}
@@ -41,8 +40,7 @@ ends-within k x small fits =
 
 pub window-fits : (k x command h b : ℕ) → x < 4294967296 → h < 32 → b < 8 → isOpen k x command ≡ true → Fits (windowOf k x h b)
 window-fits k x command h b fits hh hb o =
-    let a = both-true (leb 2 k) _ o in
-    let small : k ≤ 16 = leb-true k 16 (both-true (leb k 16) _ (a .1) .0) in
+    let small : k ≤ 16 = window-range k (both-true (isWindow k) _ o .0) .1 in
     record {
       space = omega arith;
       length-pos = pow-pos k;

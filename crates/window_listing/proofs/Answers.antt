@@ -1,5 +1,5 @@
 -- The listing answers for window n of the list, in refusals too.
-use Prim.Native.Nat.{ℕ, zero, suc, _+_, _/_, _%_, _^_, _≤_, _<_}
+use Prim.Native.Nat.{ℕ, zero, suc, _+_, _≤_, _<_}
 use native.Mathlib.Omega.{arith}
 use lib.Dec.{eqb}
 use mathlib.Core.Bool.{Bool, true, false, cond}
@@ -10,15 +10,15 @@ use Rattle.board.specs.Statuses.{deviceNotFound}
 use Rattle.window_listing.specs.declared.listing.Listing.{Listing}
 use Rattle.window_listing.specs.declared.listing.Listing.the-variants.{Found, Refused}
 use Rattle.window.specs.Window.{Window}
-use Rattle.window.specs.Kept.{unpack, unpacked}
+use Rattle.window.specs.Kept.{unpack, isEnd, unpacked}
 use Rattle.window_listing.specs.Listing.{inSpace, found, listing, numberOf, valuesOf, listedNumber, listedValues, Lists}
 use Rattle.window.proofs.Unpacked.{unpacked-none, unpacked-one, unpacked-end}
 
 -- counting the windows of a kept list from place j on
-pub counted-none : (l : List ℕ) (j : ℕ) → j < length l → getD l j 0 / 2 % 2 ^ 17 ≡ 0 → length (unpacked (drop j l)) ≡ 0
+pub counted-none : (l : List ℕ) (j : ℕ) → j < length l → isEnd (getD l j 0) ≡ true → length (unpacked (drop j l)) ≡ 0
 counted-none l j h z = ap length (unpacked-none l j h z)
 
-pub counted-one : (l : List ℕ) (j : ℕ) → j < length l → (getD l j 0 / 2 % 2 ^ 17 ≡ 0 → ⊥)
+pub counted-one : (l : List ℕ) (j : ℕ) → j < length l → isEnd (getD l j 0) ≡ false
     → length (unpacked (drop j l)) ≡ suc (length (unpacked (drop (j + 1) l)))
 counted-one l j h n = ap length (unpacked-one l j h n)
 
@@ -59,7 +59,7 @@ lists-past l n h = lists l n (Refused deviceNotFound) (past l n h)
 at : (l : List ℕ) (n : ℕ) → n < length (unpacked l) → found (unpack (getD l n 0)) ≡ listing (unpacked l) n
 unfolding unpacked listing
 at [] n h = absurd (omega arith)
-at (w ∷ l) n h = by (eqb (unpack w .length) 0) n h (at l)
+at (w ∷ l) n h = by (isEnd w) n h (at l)
   where
     by : (b : Bool) (n : ℕ) → n < length (cond b [] (unpack w ∷ unpacked l))
         → ((m : ℕ) → m < length (unpacked l) → found (unpack (getD l m 0)) ≡ listing (unpacked l) m)

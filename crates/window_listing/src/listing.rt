@@ -6,6 +6,7 @@ use numbers::number::u64_at;
 use window::kept::base_of;
 use window::kept::handle_of;
 use window::kept::is_contested;
+use window::kept::is_end;
 use window::kept::is_io;
 use window::kept::length_of;
 use window::kept::start_of;
@@ -37,7 +38,7 @@ fn kept_count(list: &[u64]) -> usize
 {
     let mut j = 0;
     while j < list.len() {
-        if length_of(list[j]) == 0 {
+        if is_end(list[j]) {
             return j;
         }
         j += 1;

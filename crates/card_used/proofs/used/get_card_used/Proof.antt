@@ -1,8 +1,6 @@
 -- `get_card_used`: the handle is tested, then the two numbers are read.
 use mathlib.Core.Path.{sym, _∙_}
-use denote.Ref.{now}
 use borrow.Author.Tests.{not-true, not-false}
-use Rattle.board.proofs.Handles.{handle-place}
 use borrow.Author.Needs.{needs}
 use Rattle.card_used.proofs.used.get_card_used.Statement.{statement}
 use Rattle.card_used.proofs.used.get_card_used.Tie as tie
@@ -13,8 +11,8 @@ is-handle-requires c κs = search needs
 returns : tie.Need-returns
 returns c = rw (sym (c .before .is-handle .ensures) ∙ not-true _ (c .if1 .taken))
 
-sub-at : tie.Need-sub-at
-sub-at c = handle-place (now (c .before .before .args .header)) _ (sym (c .before .is-handle .ensures) ∙ not-false _ (c .if1 .left)) .0
+place-requires : tie.Need-place-requires
+place-requires c κs = search needs
 
 cast-at : tie.Need-cast-at
 cast-at c = search needs
@@ -34,7 +32,7 @@ u32-at-requires-2 c κs = search needs
 returns-2 : tie.Need-returns-2
 returns-2 c =
     let b = c .before .before .before .before in
-    rw (sym (b .before .is-handle .ensures) ∙ not-false _ (b .if1 .left), c .u32-at2 .ensures, c .before .before .u32-at .ensures)
+    rw (sym (b .before .before .is-handle .ensures) ∙ not-false _ (b .before .if1 .left), c .u32-at2 .ensures, c .before .before .u32-at .ensures, b .place .ensures)
 
 pub get-card-used-spec : {M : Type 1} → statement M
 get-card-used-spec =
@@ -42,7 +40,7 @@ get-card-used-spec =
     (tie.spec
     is-handle-requires
     returns
-    sub-at
+    place-requires
     cast-at
     mul-at
     u32-at-requires

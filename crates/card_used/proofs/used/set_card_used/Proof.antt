@@ -23,26 +23,24 @@ returns-2 c = rw (sym (c .before .before .is-handle .ensures) ∙ not-false _ (c
 call-back-kept-requires : tie.Need-call-back-kept-requires
 call-back-kept-requires c κs = search needs
 
-sub-put : tie.Need-sub-put
-sub-put c =
-    let b = c .before .before .before in
-    handle-place (now (b .before .before .args .header)) _ (sym (b .before .is-handle .ensures) ∙ not-false _ (b .if1 .left)) .0
+place-requires : tie.Need-place-requires
+place-requires c κs = search needs
 
 cast-put : tie.Need-cast-put
 cast-put c = search needs
 
 put-requires : tie.Need-put-requires
 put-requires c κs =
-    let b = c .before .before .before in
+    let b = c .before .before .before .before in
     let a = b .before .before .args in
     let p = handle-place (now (a .header)) (a .handle) (sym (b .before .is-handle .ensures) ∙ not-false _ (b .if1 .left)) in
     let n : length (a .used .now) ≡ functionsMax * markSize = search needs in
-    omega (arith, p .0, p .1 .1)
+    omega (arith, p .0, p .1 .1, c .place .ensures)
 
 returns-3 : tie.Need-returns-3
 returns-3 c =
-    let b = c .before .before .before in
-    rw (sym (b .before .before .is-handle .ensures) ∙ not-false _ (b .before .if1 .left), le-leb (b .before .before .before .args .status) 3 (omega (arith, b .if2 .left)), c .put .ensures, c .before .before .call-back-kept .ensures)
+    let b = c .before .before .before .before in
+    rw (sym (b .before .before .is-handle .ensures) ∙ not-false _ (b .before .if1 .left), le-leb (b .before .before .before .args .status) 3 (omega (arith, b .if2 .left)), c .put .ensures, c .before .before .before .call-back-kept .ensures, c .before .place .ensures)
 
 pub set-card-used-spec : {M : Type 1} → statement M
 set-card-used-spec =
@@ -52,7 +50,7 @@ set-card-used-spec =
     returns
     returns-2
     call-back-kept-requires
-    sub-put
+    place-requires
     cast-put
     put-requires
     returns-3)

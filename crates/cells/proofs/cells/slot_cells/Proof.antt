@@ -25,11 +25,11 @@ add-at-2 c = search needs
 byte-at-requires : tie.Need-byte-at-requires
 byte-at-requires c κs = search needs
 
-cell-count-requires : tie.Need-cell-count-requires
-cell-count-requires c κs = search needs
+window-length-requires : tie.Need-window-length-requires
+window-length-requires c κs = search needs
 
 returns : tie.Need-returns
-returns c = (rw (c .cell-count .ensures .0, c .before .byte-at .ensures, add-zero), c .cell-count .ensures .1)
+returns c = (rw (c .window-length .ensures .0, c .before .byte-at .ensures, add-zero), c .window-length .ensures .1)
 
 pub slot-cells-spec : {M : Type 1} → statement M
 slot-cells-spec =
@@ -42,5 +42,5 @@ slot-cells-spec =
     add-at
     add-at-2
     byte-at-requires
-    cell-count-requires
+    window-length-requires
     returns)

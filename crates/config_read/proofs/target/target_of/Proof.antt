@@ -1,8 +1,6 @@
 -- `target_of`: the two checks in their order.
 use mathlib.Core.Path.{sym, _∙_}
-use denote.Ref.{now}
 use borrow.Author.Tests.{not-true, not-false}
-use Rattle.board.proofs.Handles.{handle-place}
 use Rattle.config_read.specs.Target.{target}
 use borrow.Author.Needs.{needs}
 use Rattle.config_read.proofs.target.target_of.Statement.{statement}
@@ -23,14 +21,14 @@ unfolding target
 returns-2 c =
     rw (sym (c .before .before .before .is-handle .ensures) ∙ not-false _ (c .before .if1 .left), sym (c .before .before .fits2 .ensures) ∙ not-true _ (c .if2 .taken))
 
-sub-t10 : tie.Need-sub-t10
-sub-t10 c = handle-place (now (c .before .before .before .before .args .header)) _ (sym (c .before .before .before .is-handle .ensures) ∙ not-false _ (c .before .if1 .left)) .0
+place-requires : tie.Need-place-requires
+place-requires c κs = search needs
 
 returns-3 : tie.Need-returns-3
 unfolding target
 returns-3 c =
-    rw (sym (c .before .before .before .is-handle .ensures) ∙ not-false _ (c .before .if1 .left), sym (c .before .before .fits2 .ensures) ∙ not-false _ (c .if2 .left))
+    rw (sym (c .before .before .before .before .is-handle .ensures) ∙ not-false _ (c .before .before .if1 .left), sym (c .before .before .before .fits2 .ensures) ∙ not-false _ (c .before .if2 .left), c .place .ensures)
 
 pub target-of-spec : {M : Type 1} → statement M
 target-of-spec =
-    tie.close (tie.spec is-handle-requires fits-requires returns returns-2 sub-t10 returns-3)
+    tie.close (tie.spec is-handle-requires fits-requires returns returns-2 place-requires returns-3)

@@ -17,8 +17,8 @@ u32-at-requires c κs = search needs
 cast-short : tie.Need-cast-short
 cast-short c = search needs
 
-is-aligned-requires : tie.Need-is-aligned-requires
-is-aligned-requires c κs = search needs
+is-multiple-by-shift-requires : tie.Need-is-multiple-by-shift-requires
+is-multiple-by-shift-requires c κs = search needs
 
 returns : tie.Need-returns
 unfolding find
@@ -31,7 +31,7 @@ returns-2 c = rw (sym (c .before .before .before .before .before .is-handle .ens
 returns-3 : tie.Need-returns-3
 unfolding find
 returns-3 c =
-    rw (sym (c .before .before .before .before .before .before .is-handle .ensures) ∙ not-false _ (c .before .before .if1 .left), ← c .before .before .before .before .u32-at .ensures, c .before .if2 .left, sym (c .before .before .before .is-aligned .ensures) ∙ not-true _ (c .if3 .taken))
+    rw (sym (c .before .before .before .before .before .before .is-handle .ensures) ∙ not-false _ (c .before .before .if1 .left), ← c .before .before .before .before .u32-at .ensures, c .before .if2 .left, sym (c .before .before .before .is-multiple-by-shift .ensures) ∙ not-true _ (c .if3 .taken))
 
 in-list-requires : tie.Need-in-list-requires
 in-list-requires c κs = handle-place (now (c .before .before .before .before .before .before .before .before .args .header)) _ (sym (c .before .before .before .before .before .before .before .is-handle .ensures) ∙ not-false _ (c .before .before .before .if1 .left)) .0
@@ -39,7 +39,7 @@ in-list-requires c κs = handle-place (now (c .before .before .before .before .b
 returns-4 : tie.Need-returns-4
 unfolding find
 returns-4 c =
-    rw (sym (c .before .before .before .before .before .before .before .before .is-handle .ensures) ∙ not-false _ (c .before .before .before .before .if1 .left), ← c .before .before .before .before .before .before .u32-at .ensures, c .before .before .before .if2 .left, sym (c .before .before .before .before .before .is-aligned .ensures) ∙ not-false _ (c .before .before .if3 .left)) (c .in-list .ensures)
+    rw (sym (c .before .before .before .before .before .before .before .before .is-handle .ensures) ∙ not-false _ (c .before .before .before .before .if1 .left), ← c .before .before .before .before .before .before .u32-at .ensures, c .before .before .before .if2 .left, sym (c .before .before .before .before .before .is-multiple-by-shift .ensures) ∙ not-false _ (c .before .before .if3 .left)) (c .in-list .ensures)
 
 pub find-window-spec : {M : Type 1} → statement M
 find-window-spec =
@@ -48,7 +48,7 @@ find-window-spec =
     is-handle-requires
     u32-at-requires
     cast-short
-    is-aligned-requires
+    is-multiple-by-shift-requires
     returns
     returns-2
     returns-3

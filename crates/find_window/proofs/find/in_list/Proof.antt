@@ -28,32 +28,33 @@ mul-w c = search needs
 shared-slice-read-w : tie.Need-shared-slice-read-w Inv-loop μ-loop
 shared-slice-read-w c = search needs
 
-length-of-requires : tie.Need-length-of-requires Inv-loop μ-loop
-length-of-requires c κs = search needs
+is-end-requires : tie.Need-is-end-requires Inv-loop μ-loop
+is-end-requires c κs = search needs
 
 returns : tie.Need-returns Inv-loop μ-loop
 returns c =
     let d = c .before .before .before in
-    sym (list-none _ _ _ _ _ (d .before .loop .j) (d .loop-test .taken) (sym (c .before .length-of .ensures) ∙ c .if1 .taken)) ∙ d .before .loop .inv
+    sym (list-none _ _ _ _ _ (d .before .loop .j) (d .loop-test .taken) (sym (c .before .is-end .ensures) ∙ c .if1 .taken)) ∙ d .before .loop .inv
 
 holds-requires : tie.Need-holds-requires Inv-loop μ-loop
 holds-requires c κs = search needs
 
-sub-judged : tie.Need-sub-judged Inv-loop μ-loop
-sub-judged c = search needs
+place-of-handle-requires : tie.Need-place-of-handle-requires Inv-loop μ-loop
+place-of-handle-requires c κs = search needs
 
 judged-requires : tie.Need-judged-requires Inv-loop μ-loop
 judged-requires c κs =
-    let a = c .before .before .before .before .before .before .before .before .args in
-    let j = c .before .before .before .before .before .before .loop .j in
-    let h = held (spaceNumber (a .space)) (a .handle) (a .address) (unpack (getD (a .list .now) j 0)) (sym (c .before .holds .ensures) ∙ c .if2 .taken) in
+    let d = c .before in
+    let a = d .before .before .before .before .before .before .before .before .args in
+    let j = d .before .before .before .before .before .before .loop .j in
+    let h = held (spaceNumber (a .space)) (a .handle) (a .address) (unpack (getD (a .list .now) j 0)) (sym (d .before .holds .ensures) ∙ d .if2 .taken) in
     (h .from, h .to)
 
 returns-2 : tie.Need-returns-2 Inv-loop μ-loop
 returns-2 c =
-    let d = c .before .before .before in
+    let d = c .before .before .before .before in
     c .judged .ensures
-    ∙ sym (list-here _ _ _ _ _ (d .before .before .before .before .loop .j) (d .before .before .before .loop-test .taken) (λ z. d .if1 .left (d .before .length-of .ensures ∙ z)) (sym (c .before .before .holds .ensures) ∙ c .before .if2 .taken))
+    ∙ rw (c .before .place-of-handle .ensures (d .before .before .before .before .before .before .pre)) (sym (list-here _ _ _ _ _ (d .before .before .before .before .loop .j) (d .before .before .before .loop-test .taken) (sym (d .before .is-end .ensures) ∙ d .if1 .left) (sym (c .before .before .before .holds .ensures) ∙ c .before .before .if2 .taken)))
     ∙ d .before .before .before .before .loop .inv
 
 add-j : tie.Need-add-j Inv-loop μ-loop
@@ -65,7 +66,7 @@ loop-less c = search needs
 loop-again : tie.Need-loop-again Inv-loop μ-loop
 loop-again c =
     let d = c .before .before in
-    sym (list-on _ _ _ _ _ (d .before .before .before .before .loop .j) (d .before .before .before .loop-test .taken) (λ z. d .if1 .left (d .before .length-of .ensures ∙ z)) (sym (c .before .holds .ensures) ∙ c .if2 .left))
+    sym (list-on _ _ _ _ _ (d .before .before .before .before .loop .j) (d .before .before .before .loop-test .taken) (sym (d .before .is-end .ensures) ∙ d .if1 .left) (sym (c .before .holds .ensures) ∙ c .if2 .left))
     ∙ d .before .before .before .before .loop .inv
 
 returns-3 : tie.Need-returns-3 Inv-loop μ-loop
@@ -80,10 +81,10 @@ in-list-spec =
     loop-holds
     mul-w
     shared-slice-read-w
-    length-of-requires
+    is-end-requires
     returns
     holds-requires
-    sub-judged
+    place-of-handle-requires
     judged-requires
     returns-2
     add-j

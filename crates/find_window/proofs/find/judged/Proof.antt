@@ -37,8 +37,8 @@ sub-distance c = search needs
 length-of-requires : tie.Need-length-of-requires
 length-of-requires c κs = search needs
 
-sub-t13 : tie.Need-sub-t13
-sub-t13 c = search needs
+sub-remaining : tie.Need-sub-remaining
+sub-remaining c = search needs
 
 returns-3 : tie.Need-returns-3
 returns-3 c =
@@ -58,5 +58,5 @@ judged-spec =
     start-of-requires
     sub-distance
     length-of-requires
-    sub-t13
+    sub-remaining
     returns-3)

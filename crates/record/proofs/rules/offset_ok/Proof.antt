@@ -1,4 +1,4 @@
--- `offset_ok`: the test is the definition's, of the longword that the call reads.
+-- `offset_ok`: the longword that the call reads is tested.
 use borrow.Author.Needs.{needs}
 use Rattle.record.proofs.rules.offset_ok.Statement.{statement}
 use Rattle.record.proofs.rules.offset_ok.Tie as tie
@@ -9,8 +9,11 @@ cast-big-at c = search needs
 big-at-requires : tie.Need-big-at-requires
 big-at-requires c κs = search needs
 
+is-multiple-requires : tie.Need-is-multiple-requires
+is-multiple-requires c κs = search needs
+
 returns : tie.Need-returns
-returns c = rw (c .big-at .ensures)
+returns c = rw (← c .before .big-at .ensures) (c .is-multiple .ensures)
 
 pub offset-ok-spec : {M : Type 1} → statement M
-offset-ok-spec = tie.close (tie.spec cast-big-at big-at-requires returns)
+offset-ok-spec = tie.close (tie.spec cast-big-at big-at-requires is-multiple-requires returns)

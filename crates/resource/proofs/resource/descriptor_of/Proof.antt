@@ -1,5 +1,4 @@
 -- `descriptor_of`: each field is read as the definition reads it.
-use Rattle.resource.proofs.Turns.{window-small}
 use borrow.Author.Needs.{needs}
 use Rattle.resource.proofs.resource.descriptor_of.Statement.{statement}
 use Rattle.resource.proofs.resource.descriptor_of.Tie as tie
@@ -25,9 +24,8 @@ flags-requires c κs = search needs
 exponent-requires : tie.Need-exponent-requires
 exponent-requires c κs = search needs
 
-length-requires : tie.Need-length-requires
-length-requires c κs =
-    rw (c .exponent .ensures, c .before .before .before .before .before .before .before .place .ensures) (window-small _ (c .before .before .before .before .before .before .before .before .pre))
+window-length-requires : tie.Need-window-length-requires
+window-length-requires c κs = search needs
 
 offset-requires : tie.Need-offset-requires
 offset-requires c κs = search needs
@@ -40,7 +38,7 @@ returns c =
     rw (
       c .dma-offset .ensures,
       c .before .offset .ensures,
-      c .before .before .length .ensures,
+      c .before .before .window-length .ensures .0,
       c .before .before .before .exponent .ensures,
       c .before .before .before .before .flags .ensures,
       c .before .before .before .before .before .byte-order .ensures,
@@ -48,6 +46,7 @@ returns c =
       c .before .before .before .before .before .before .before .base-register .ensures,
       c .before .before .before .before .before .before .before .before .start-in .ensures,
       c .before .before .before .before .before .before .before .before .before .before .place .ensures,
+      c .before .before .before .before .before .before .before .before .before .before .before .pre,
     )
 
 pub descriptor-of-spec : {M : Type 1} → statement M
@@ -61,7 +60,7 @@ descriptor-of-spec =
     byte-order-requires
     flags-requires
     exponent-requires
-    length-requires
+    window-length-requires
     offset-requires
     dma-offset-requires
     returns)

@@ -24,13 +24,13 @@ mul-w c = search needs
 shared-slice-read-w : tie.Need-shared-slice-read-w Inv-loop μ-loop
 shared-slice-read-w c = search needs
 
-length-of-requires : tie.Need-length-of-requires Inv-loop μ-loop
-length-of-requires c κs = search needs
+is-end-requires : tie.Need-is-end-requires Inv-loop μ-loop
+is-end-requires c κs = search needs
 
 returns : tie.Need-returns Inv-loop μ-loop
 returns c =
     let d = c .before .before .before in
-    sym (start-none _ _ _ (d .before .loop .j) (d .loop-test .taken) (sym (c .before .length-of .ensures) ∙ c .if1 .taken)) ∙ d .before .loop .inv
+    sym (start-none _ _ _ (d .before .loop .j) (d .loop-test .taken) (sym (c .before .is-end .ensures) ∙ c .if1 .taken)) ∙ d .before .loop .inv
 
 is-of-requires : tie.Need-is-of-requires Inv-loop μ-loop
 is-of-requires c κs = search needs
@@ -42,7 +42,7 @@ returns-2 : tie.Need-returns-2 Inv-loop μ-loop
 returns-2 c =
     let d = c .before .before .before in
     c .shown-start .ensures
-    ∙ sym (start-here _ _ _ (d .before .before .before .before .loop .j) (d .before .before .before .loop-test .taken) (λ z. d .if1 .left (d .before .length-of .ensures ∙ z)) (sym (c .before .before .is-of .ensures) ∙ c .before .if2 .taken))
+    ∙ sym (start-here _ _ _ (d .before .before .before .before .loop .j) (d .before .before .before .loop-test .taken) (sym (d .before .is-end .ensures) ∙ d .if1 .left) (sym (c .before .before .is-of .ensures) ∙ c .before .if2 .taken))
     ∙ d .before .before .before .before .loop .inv
 
 add-j : tie.Need-add-j Inv-loop μ-loop
@@ -54,7 +54,7 @@ loop-less c = search needs
 loop-again : tie.Need-loop-again Inv-loop μ-loop
 loop-again c =
     let d = c .before .before in
-    sym (start-on _ _ _ (d .before .before .before .before .loop .j) (d .before .before .before .loop-test .taken) (λ z. d .if1 .left (d .before .length-of .ensures ∙ z)) (sym (c .before .is-of .ensures) ∙ c .if2 .left))
+    sym (start-on _ _ _ (d .before .before .before .before .loop .j) (d .before .before .before .loop-test .taken) (sym (d .before .is-end .ensures) ∙ d .if1 .left) (sym (c .before .is-of .ensures) ∙ c .if2 .left))
     ∙ d .before .before .before .before .loop .inv
 
 returns-3 : tie.Need-returns-3 Inv-loop μ-loop
@@ -69,7 +69,7 @@ start-in-spec =
     loop-holds
     mul-w
     shared-slice-read-w
-    length-of-requires
+    is-end-requires
     returns
     is-of-requires
     shown-start-requires

@@ -3,9 +3,11 @@ use Prim.Native.Nat.{_^_, _≤_}
 use mathlib.Core.Bool.{true}
 use mathlib.Core.Path.{_≡_, sym, _∙_}
 use native.Mathlib.Omega.{arith}
+use lib.Pow.{pow-pos}
 use borrow.Author.Tests.{eq-eqb, ne-eqb, not-true, not-false}
+use Rattle.numbers.proofs.Numbers.{power-small, power-most}
 use Rattle.window_entry.specs.Entry.{entryOk, formOk}
-use Rattle.window_entry.proofs.Entries.{form-exponent, power-small, size-most, size-some}
+use Rattle.window_entry.proofs.Entries.{form-exponent}
 use borrow.Author.Needs.{needs}
 use Rattle.window_entry.proofs.entry.entry_ok.Statement.{statement}
 use Rattle.window_entry.proofs.entry.entry_ok.Tie as tie
@@ -39,7 +41,7 @@ mask-ok-requires c κs =
     let e = d .before .before .before .before .args .e in
     let k = e .exponent in
     let small : k ≤ 16 = form-exponent e (sym (d .before .form-ok .ensures) ∙ not-false _ (d .if2 .left)) in
-    rw (c .power .ensures, power-small k small) (size-most k small)
+    rw (c .power .ensures, power-small k small) (power-most k small)
 
 low-bits-ok-requires : tie.Need-low-bits-ok-requires
 low-bits-ok-requires c κs =
@@ -47,7 +49,7 @@ low-bits-ok-requires c κs =
     let e = d .before .before .before .before .args .e in
     let k = e .exponent in
     let small : k ≤ 16 = form-exponent e (sym (d .before .form-ok .ensures) ∙ not-false _ (d .if2 .left)) in
-    rw (c .before .power .ensures, power-small k small) (size-some k)
+    rw (c .before .power .ensures, power-small k small) (pow-pos k)
 
 returns-3 : tie.Need-returns-3
 unfolding entryOk

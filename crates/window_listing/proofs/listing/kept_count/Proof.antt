@@ -18,19 +18,19 @@ abbrev μ-loop : tie.MeasureT-loop
 loop-holds : tie.Need-loop-holds Inv-loop μ-loop
 loop-holds c = (search needs, omega arith)
 
-mul-length-of : tie.Need-mul-length-of Inv-loop μ-loop
-mul-length-of c = search needs
+mul-is-end : tie.Need-mul-is-end Inv-loop μ-loop
+mul-is-end c = search needs
 
-shared-slice-read-length-of : tie.Need-shared-slice-read-length-of Inv-loop μ-loop
-shared-slice-read-length-of c = search needs
+shared-slice-read-is-end : tie.Need-shared-slice-read-is-end Inv-loop μ-loop
+shared-slice-read-is-end c = search needs
 
-length-of-requires : tie.Need-length-of-requires Inv-loop μ-loop
-length-of-requires c κs = search needs
+is-end-requires : tie.Need-is-end-requires Inv-loop μ-loop
+is-end-requires c κs = search needs
 
 returns : tie.Need-returns Inv-loop μ-loop
 returns c =
     let d = c .before .before .before in
-    let z = sym (c .before .length-of .ensures) ∙ c .if1 .taken in
+    let z = sym (c .before .is-end .ensures) ∙ c .if1 .taken in
     omega (arith, counted-none (d .before .before .before .args .list .now) (d .before .loop .j) (d .loop-test .taken) z)
 
 add-j : tie.Need-add-j Inv-loop μ-loop
@@ -46,7 +46,7 @@ loop-again c =
       omega (
         arith,
         counted-one (d .before .before .before .args .list .now) (d .before .loop .j) (d .loop-test .taken)
-            (λ z. c .if1 .left (c .before .length-of .ensures ∙ z)),
+            (sym (c .before .is-end .ensures) ∙ c .if1 .left),
       ),
     )
 
@@ -60,9 +60,9 @@ kept-count-spec =
     Inv-loop
     μ-loop
     loop-holds
-    mul-length-of
-    shared-slice-read-length-of
-    length-of-requires
+    mul-is-end
+    shared-slice-read-is-end
+    is-end-requires
     returns
     add-j
     loop-less
