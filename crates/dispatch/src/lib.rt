@@ -1,4 +1,4 @@
 // Every call on a board through one function.
-pub mod ask;
+mod accesses;
+mod ask;
 pub mod perform;
-pub mod through;

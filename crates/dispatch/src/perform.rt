@@ -1,7 +1,7 @@
 // Every call on a board through one function.
+use crate::accesses::config_access;
+use crate::accesses::data_access;
 use crate::ask::ask;
-use crate::through::config;
-use crate::through::data;
 use board::layout::CellOffsets;
 use board::layout::Header;
 use board::layout::Hooks;
@@ -73,7 +73,7 @@ pub fn perform(
             handle,
             register,
             access,
-        } => config(
+        } => config_access(
             header,
             records,
             registers,
@@ -89,7 +89,7 @@ pub fn perform(
             handle,
             address,
             access,
-        } => data(
+        } => data_access(
             header,
             records,
             windows,

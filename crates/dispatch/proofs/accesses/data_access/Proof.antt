@@ -1,10 +1,10 @@
--- `data`: each arm by the contract of its call.
+-- `data_access`: each arm by the contract of its call.
 use borrow.Author.Needs.{needs}
-use Rattle.dispatch.proofs.through.data.Statement.{statement}
-use Rattle.dispatch.proofs.through.data.Tie as tie
+use Rattle.dispatch.proofs.accesses.data_access.Statement.{statement}
+use Rattle.dispatch.proofs.accesses.data_access.Tie as tie
 
-pub data-spec : {M : Type 1} → statement M
-data-spec =
+pub data-access-spec : {M : Type 1} → statement M
+data-access-spec =
     tie.close
     (tie.spec
     (λ c. search needs)

@@ -1,10 +1,10 @@
--- `config`: each arm by the contract of its call.
+-- `config_access`: each arm by the contract of its call.
 use borrow.Author.Needs.{needs}
-use Rattle.dispatch.proofs.through.config.Statement.{statement}
-use Rattle.dispatch.proofs.through.config.Tie as tie
+use Rattle.dispatch.proofs.accesses.config_access.Statement.{statement}
+use Rattle.dispatch.proofs.accesses.config_access.Tie as tie
 
-pub config-spec : {M : Type 1} → statement M
-config-spec =
+pub config-access-spec : {M : Type 1} → statement M
+config-access-spec =
     tie.close
     (tie.spec
     (λ c. search needs)

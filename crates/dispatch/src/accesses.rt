@@ -22,7 +22,7 @@ ghost use mathlib.Core.Path.{_≡_};
 ghost use Rattle.reference.specs.State.{configured, configAccess, stored, dataAccess};
 
 // A configuration access.
-pub(crate) fn config(
+pub(crate) fn config_access(
     header: &Header,
     records: &Records,
     registers: &mut Registers,
@@ -55,7 +55,7 @@ pub(crate) fn config(
 }
 
 // A data access.
-pub(crate) fn data(
+pub(crate) fn data_access(
     header: &Header,
     records: &Records,
     windows: &Windows,
