@@ -30,8 +30,7 @@ pub fn place(handle: u32) -> u32
     if handle == 0 { 0 } else { handle - 1 }
 }
 
-// The same of a number that is not 0, without a test, for data calls: behind the test the compiler no longer sees that the place of a tested handle is below 16, and tests that
-// again wherever a record is read, which made a data read a twentieth longer.
+// The same of a number that is not 0, without a test, for data calls. Data reads were slower when they shared the exact one (docs/DECISIONS.md).
 pub fn place_of_handle(handle: u32) -> u32
     ensures { λ r. ⌜ (0 < handle → r ≡ handle - 1) ⌝ }
 {

@@ -52,7 +52,7 @@ pub fn is_multiple(n: u32, width: Width) -> bool
     }
 }
 
-// The same without a branch, for data calls. Configuration calls took a tenth longer with it: from the branches the compiler makes a way of its own for each width.
+// The same without a branch, for data calls. Configuration calls were slower when they shared it (docs/DECISIONS.md).
 pub fn is_multiple_by_shift(n: u32, width: Width) -> bool
     ensures { λ r. ⌜ r ≡ isMultiple n (bytes width) ⌝ }
 {
