@@ -5,9 +5,9 @@ use mathlib.Core.List.{List}
 use Rattle.window.specs.Window.{Window}
 use Rattle.window_listing.specs.Listing.{numberOf, valuesOf, Lists}
 use Rattle.window_listing.specs.declared.listing.Listing.{Listing}
-use Rattle.hooks.specs.Hooks.{Hook}
-use Rattle.chain_listing.specs.Listing.{chainNumberOf, chainValuesOf, ListsChain}
-use Rattle.chain_listing.specs.declared.listing.ChainListing.{ChainListing}
+use Rattle.interrupt_array.specs.Hooks.{Hook}
+use Rattle.interrupt_list.specs.Listing.{chainNumberOf, chainValuesOf, ListsChain}
+use Rattle.interrupt_list.specs.declared.listing.ChainListing.{ChainListing}
 use Rattle.call.specs.declared.answer.Answer.{Answer}
 use Rattle.call.specs.Answers.{answer, ofChain}
 use Rattle.bios.specs.Exports.{shown, shownWindow, shownHook}

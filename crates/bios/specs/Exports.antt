@@ -12,20 +12,20 @@ use Rattle.board.specs.declared.status.Status.{Status}
 use Rattle.window.specs.Window.{Window}
 use Rattle.window_listing.specs.Listing.{listedNumber, listedValues}
 use Rattle.config_read.specs.Read.{readConfig, fastReadConfig}
-use Rattle.config.specs.Write.{Wrote, wrote, writeConfig}
+use Rattle.config_write.specs.Write.{Wrote, wrote, writeConfig}
 use Rattle.board.specs.declared.read.Read.{Read}
 use Rattle.board.specs.declared.read.FastRead.{FastRead}
-use Rattle.conversions.specs.declared.convert.ToBus.{ToBus}
-use Rattle.conversions.specs.declared.convert.ToCpu.{ToCpu}
-use Rattle.hooks.specs.Hooks.{Hook}
-use Rattle.chain_listing.specs.Listing.{chainNumber, chainValues}
+use Rattle.address_convert.specs.declared.convert.ToBus.{ToBus}
+use Rattle.address_convert.specs.declared.convert.ToCpu.{ToCpu}
+use Rattle.interrupt_array.specs.Hooks.{Hook}
+use Rattle.interrupt_list.specs.Listing.{chainNumber, chainValues}
 use Rattle.card_used.specs.declared.used.CardUsed.{CardUsed}
-use Rattle.descriptor.specs.declared.descriptor.Descriptor.{Descriptor}
-use Rattle.walker.specs.declared.step.Step.{Step}
-use Rattle.walker.specs.declared.step.Step.the-variants.{Found as StepFound, Ended as StepEnded}
-use Rattle.refusals.specs.declared.verdict.Verdict.{Verdict}
-use Rattle.asked_width.specs.declared.width.AskedWidth.{AskedWidth}
-use Rattle.asked_width.specs.declared.width.AskedWidth.the-variants.{Known, Other}
+use Rattle.resource_descriptor.specs.declared.descriptor.Descriptor.{Descriptor}
+use Rattle.resource_walk.specs.declared.step.Step.{Step}
+use Rattle.resource_walk.specs.declared.step.Step.the-variants.{Found as StepFound, Ended as StepEnded}
+use Rattle.image_refusals.specs.declared.verdict.Verdict.{Verdict}
+use Rattle.board.specs.declared.from_c.CWidth.{CWidth}
+use Rattle.board.specs.declared.from_c.CWidth.the-variants.{Known, Other}
 
 abbrev pub verdict : ℤ → ℕ → Verdict
 verdict number place = record { number = number; place = place }
@@ -72,15 +72,15 @@ abbrev pub readNumbers : ℤ → ℕ → Read
 readNumbers number value = record { status = status number; value = value }
 
 -- another width than 1, 2 or 4 is refused with -8, and a fast read of it gives all ones
-abbrev pub askedRead : AskedWidth → List ℕ → List ℕ → ℕ → ℕ → Read
+abbrev pub askedRead : CWidth → List ℕ → List ℕ → ℕ → ℕ → Read
 askedRead (Known width) header registers handle register = readConfig (bytes width) header registers handle register
 askedRead Other header registers handle register = record { status = generalError; value = 0 }
 
-abbrev pub askedFastRead : AskedWidth → List ℕ → List ℕ → ℕ → ℕ → FastRead
+abbrev pub askedFastRead : CWidth → List ℕ → List ℕ → ℕ → ℕ → FastRead
 askedFastRead (Known width) header registers handle register = fastReadConfig (bytes width) header registers handle register
 askedFastRead Other header registers handle register = record { value = 0xFFFFFFFF; fault = true }
 
-abbrev pub askedWrite : AskedWidth → List ℕ → List ℕ → List ℕ → List ℕ → ℕ → ℕ → ℕ → Wrote
+abbrev pub askedWrite : CWidth → List ℕ → List ℕ → List ℕ → List ℕ → ℕ → ℕ → ℕ → Wrote
 askedWrite (Known width) header records registers windows handle register value =
     writeConfig (bytes width) header records registers windows handle register value
 askedWrite Other header records registers windows handle register value = wrote generalError registers windows

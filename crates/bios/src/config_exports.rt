@@ -1,6 +1,6 @@
 // Searches and configuration calls for C. A width is a number here; another than 1, 2 or 4 is refused before all else.
-use asked_width::width::AskedWidth;
-use asked_width::width::width_of;
+use board::from_c::CWidth;
+use board::from_c::width_from_c;
 use board::layout::Header;
 use board::layout::Records;
 use board::layout::Registers;
@@ -8,15 +8,15 @@ use board::layout::Windows;
 use board::status::Status;
 use call::searches::class_answer;
 use call::searches::device_answer;
-use config::write::write_config;
 use config_read::read::fast_read_config;
 use config_read::read::read_config;
+use config_write::write::write_config;
 ghost use mathlib.Core.Path.{_≡_};
 ghost use Rattle.board.specs.Handles.{functionCount};
 ghost use Rattle.board.specs.Layout.{registerByte};
 ghost use Rattle.search.specs.Search.{devices, classes, searchNumber};
-ghost use Rattle.config.specs.Write.{wrote};
-ghost use Rattle.asked_width.specs.Widths.{widthOf};
+ghost use Rattle.config_write.specs.Write.{wrote};
+ghost use Rattle.board.specs.FromC.{widthFromC};
 ghost use Rattle.bios.specs.Exports.{status, readNumbers, askedRead, fastNumbers, fastShown, askedFastRead, askedWrite};
 
 // The handle of the match with so many matches before it, or -4.
@@ -56,15 +56,15 @@ pub extern "C" fn bios_read_config(
     register: u8,
     value: &mut u32,
 ) -> i32
-    ensures { λ r. ⌜ readNumbers r (now (value .exit)) ≡ askedRead (widthOf width) (now (header .entry)) (now (registers .entry)) handle register ⌝ }
+    ensures { λ r. ⌜ readNumbers r (now (value .exit)) ≡ askedRead (widthFromC width) (now (header .entry)) (now (registers .entry)) handle register ⌝ }
 {
-    match width_of(width) {
-        AskedWidth::Known(width) => {
+    match width_from_c(width) {
+        CWidth::Known(width) => {
             let read = read_config(header, registers, width, handle, register);
             *value = read.value;
             read.status.number()
         }
-        AskedWidth::Other => {
+        CWidth::Other => {
             *value = 0;
             Status::GENERAL_ERROR.number()
         }
@@ -81,15 +81,15 @@ pub extern "C" fn bios_fast_read_config(
     register: u8,
     fault: &mut u32,
 ) -> u32
-    ensures { λ r. ⌜ fastNumbers r (now (fault .exit)) ≡ fastShown (askedFastRead (widthOf width) (now (header .entry)) (now (registers .entry)) handle register) ⌝ }
+    ensures { λ r. ⌜ fastNumbers r (now (fault .exit)) ≡ fastShown (askedFastRead (widthFromC width) (now (header .entry)) (now (registers .entry)) handle register) ⌝ }
 {
-    match width_of(width) {
-        AskedWidth::Known(width) => {
+    match width_from_c(width) {
+        CWidth::Known(width) => {
             let read = fast_read_config(header, registers, width, handle, register);
             *fault = read.fault as u32;
             read.value
         }
-        AskedWidth::Other => {
+        CWidth::Other => {
             *fault = 1;
             0xFFFFFFFF
         }
@@ -108,10 +108,10 @@ pub extern "C" fn bios_write_config(
     register: u8,
     value: u32,
 ) -> i32
-    ensures { λ r. ⌜ wrote (status r) (now (registers .exit)) (now (windows .exit)) ≡ askedWrite (widthOf width) (now (header .entry)) (now (records .entry)) (now (registers .entry)) (now (windows .entry)) handle register value ⌝ }
+    ensures { λ r. ⌜ wrote (status r) (now (registers .exit)) (now (windows .exit)) ≡ askedWrite (widthFromC width) (now (header .entry)) (now (records .entry)) (now (registers .entry)) (now (windows .entry)) handle register value ⌝ }
 {
-    match width_of(width) {
-        AskedWidth::Known(width) => {
+    match width_from_c(width) {
+        CWidth::Known(width) => {
             let s = write_config(
                 header,
                 records,
@@ -124,6 +124,6 @@ pub extern "C" fn bios_write_config(
             );
             s.number()
         }
-        AskedWidth::Other => Status::GENERAL_ERROR.number(),
+        CWidth::Other => Status::GENERAL_ERROR.number(),
     }
 }

@@ -1,21 +1,21 @@
 // Data calls and address conversions for C. A width is a number here; another than 1, 2 or 4 is refused before all else.
-use access::asked::asked_fast_read;
-use access::asked::asked_read;
-use access::asked::asked_write;
+use address_convert::convert::bus_to_cpu;
+use address_convert::convert::cpu_to_bus;
 use board::address::BusAddress;
 use board::address::CpuAddress;
 use board::layout::CellOffsets;
 use board::layout::Header;
 use board::layout::Records;
 use board::layout::Windows;
-use conversions::convert::bus_to_cpu;
-use conversions::convert::cpu_to_bus;
+use data_access::asked::asked_fast_read;
+use data_access::asked::asked_read;
+use data_access::asked::asked_write;
 ghost use mathlib.Core.Path.{_≡_};
-ghost use Rattle.conversions.specs.Convert.{busToCpu, cpuToBus};
-ghost use Rattle.access.specs.Asked.{askedData, askedFastData, askedDataWrite};
-ghost use Rattle.access.specs.Data.{wrote};
-ghost use Rattle.find_window.specs.Find.{spaceNumber};
-ghost use Rattle.asked_width.specs.Widths.{widthOf, spaceOf};
+ghost use Rattle.address_convert.specs.Convert.{busToCpu, cpuToBus};
+ghost use Rattle.data_access.specs.Asked.{askedData, askedFastData, askedDataWrite};
+ghost use Rattle.data_access.specs.Data.{wrote};
+ghost use Rattle.board.specs.Spaces.{spaceNumber};
+ghost use Rattle.board.specs.FromC.{widthFromC, spaceFromC};
 ghost use Rattle.bios.specs.Exports.{status, bus, cpu, readNumbers, fastNumbers, fastShown, toCpu, toBus};
 
 // Reads a number of a width in a window; the value, 0 where it is refused, goes to `value`.
@@ -32,7 +32,7 @@ pub extern "C" fn bios_read_data(
     address: u32,
     value: &mut u32,
 ) -> i32
-    ensures { λ r. ⌜ readNumbers r (now (value .exit)) ≡ askedData (widthOf width) (now (header .entry)) (now (records .entry)) (now (windows .entry)) (now (offsets .entry)) (now (cells .entry)) (spaceNumber (spaceOf io)) handle address ⌝ }
+    ensures { λ r. ⌜ readNumbers r (now (value .exit)) ≡ askedData (widthFromC width) (now (header .entry)) (now (records .entry)) (now (windows .entry)) (now (offsets .entry)) (now (cells .entry)) (spaceNumber (spaceFromC io)) handle address ⌝ }
 {
     let read = asked_read(
         header,
@@ -63,7 +63,7 @@ pub extern "C" fn bios_fast_read_data(
     address: u32,
     fault: &mut u32,
 ) -> u32
-    ensures { λ r. ⌜ fastNumbers r (now (fault .exit)) ≡ fastShown (askedFastData (widthOf width) (now (header .entry)) (now (records .entry)) (now (windows .entry)) (now (offsets .entry)) (now (cells .entry)) (spaceNumber (spaceOf io)) handle address) ⌝ }
+    ensures { λ r. ⌜ fastNumbers r (now (fault .exit)) ≡ fastShown (askedFastData (widthFromC width) (now (header .entry)) (now (records .entry)) (now (windows .entry)) (now (offsets .entry)) (now (cells .entry)) (spaceNumber (spaceFromC io)) handle address) ⌝ }
 {
     let read = asked_fast_read(
         header,
@@ -94,7 +94,7 @@ pub extern "C" fn bios_write_data(
     address: u32,
     value: u32,
 ) -> i32
-    ensures { λ r. ⌜ wrote (status r) (now (cells .exit)) ≡ askedDataWrite (widthOf width) (now (header .entry)) (now (records .entry)) (now (windows .entry)) (now (offsets .entry)) (now (cells .entry)) (spaceNumber (spaceOf io)) handle address value ⌝ }
+    ensures { λ r. ⌜ wrote (status r) (now (cells .exit)) ≡ askedDataWrite (widthFromC width) (now (header .entry)) (now (records .entry)) (now (windows .entry)) (now (offsets .entry)) (now (cells .entry)) (spaceNumber (spaceFromC io)) handle address value ⌝ }
 {
     let status = asked_write(
         header,

@@ -3,13 +3,13 @@ use board::layout::Header;
 use board::layout::Records;
 use board::layout::Registers;
 use board::layout::Windows;
-use descriptor::descriptor::Descriptor;
 use resource::resource::get_resource;
-use walker::step::Step;
-use walker::step::descriptor_step;
+use resource_descriptor::descriptor::Descriptor;
+use resource_walk::step::Step;
+use resource_walk::step::descriptor_step;
 ghost use mathlib.Core.Path.{_≡_};
 ghost use Rattle.resource.specs.Resource.{gave, getResource};
-ghost use Rattle.walker.specs.Walk.{stepAt};
+ghost use Rattle.resource_walk.specs.Walk.{stepAt};
 ghost use Rattle.bios.specs.Exports.{status, fieldsShown, stepShown, stepNumbers};
 
 // A descriptor as numbers: next, flags, start, length, offset, dmaoffset.

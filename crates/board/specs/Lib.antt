@@ -5,3 +5,5 @@ pub mod Layout
 pub mod Handles
 pub mod Parts
 pub mod Reads
+pub mod Spaces
+pub mod FromC

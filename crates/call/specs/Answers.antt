@@ -8,10 +8,10 @@ use Rattle.numbers.specs.Numbers.{isZero}
 use Rattle.board.specs.declared.status.Status.{Status}
 use Rattle.board.specs.declared.read.Read.{Read}
 use Rattle.board.specs.declared.read.FastRead.{FastRead}
-use Rattle.conversions.specs.declared.convert.ToBus.{ToBus}
-use Rattle.conversions.specs.declared.convert.ToCpu.{ToCpu}
+use Rattle.address_convert.specs.declared.convert.ToBus.{ToBus}
+use Rattle.address_convert.specs.declared.convert.ToCpu.{ToCpu}
 use Rattle.card_used.specs.declared.used.CardUsed.{CardUsed}
-use Rattle.refusals.specs.declared.verdict.Verdict.{Verdict}
+use Rattle.image_refusals.specs.declared.verdict.Verdict.{Verdict}
 use Rattle.call.specs.declared.answer.Answer.{Answer}
 
 -- numbers other than 0 refuse

@@ -1,12 +1,12 @@
 // The answer of a call, and how each kind of outcome gives it.
+use address_convert::convert::ToBus;
+use address_convert::convert::ToCpu;
 use board::read::FastRead;
 use board::read::Read;
 use board::status::Status;
 use card_used::used::CardUsed;
-use chain_listing::listing::ChainListing;
-use conversions::convert::ToBus;
-use conversions::convert::ToCpu;
-use refusals::verdict::Verdict;
+use image_refusals::verdict::Verdict;
+use interrupt_list::listing::ChainListing;
 use search::search::Search;
 use window_listing::listing::ListedWindow;
 use window_listing::listing::Listing;
@@ -18,7 +18,7 @@ ghost use lib.ListN.{replicate};
 ghost use Prim.Native.Nat.{_<_};
 ghost use Rattle.window_listing.specs.Listing.{numberOf, valuesOf, spaceNumber, startNumber, lengthNumber};
 ghost use Rattle.search.specs.Search.{foundNumber};
-ghost use Rattle.chain_listing.specs.Listing.{chainNumberOf, chainValuesOf};
+ghost use Rattle.interrupt_list.specs.Listing.{chainNumberOf, chainValuesOf};
 ghost use Rattle.call.specs.Answers.{answer, zeros, one, ofStatus, ofVerdict, ofSearch, ofRead, ofFastRead, ofToCpu, ofToBus, ofChain, ofUsed};
 ghost use Rattle.call.specs.Steps.{handleFound};
 

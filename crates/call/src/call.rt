@@ -1,7 +1,7 @@
 // The calls on a board, in groups: a group is a row of the tables that say what a call may touch and when it is struck out.
 use board::address::BusAddress;
 use board::address::CpuAddress;
-use find_window::find::Space;
+use board::space::Space;
 use numbers::number::Width;
 
 // What is done to registers or cells.

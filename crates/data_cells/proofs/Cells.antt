@@ -12,7 +12,7 @@ use Rattle.numbers.specs.Numbers.{byteAt, big, bigBytes, reversed}
 use Rattle.numbers.proofs.Numbers.{reversed-below, reversed-back, big-bytes}
 use Rattle.numbers.proofs.Stores.{sets-other}
 use Rattle.numbers.proofs.Tables.{table-length}
-use Rattle.byte_order.specs.Orders.{ordered}
+use Rattle.data_order.specs.Orders.{ordered}
 use Rattle.data_cells.specs.Meaning.{ReadBack, OnlyItsCells}
 
 -- the bytes of a value, stored where there is room, make the value modulo 256 ^ w

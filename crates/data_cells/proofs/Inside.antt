@@ -4,11 +4,11 @@ use mathlib.Core.Bool.{Bool, true, false, cond, true≢false}
 use mathlib.Core.Path.{_≡_, refl}
 use lib.Dec.{ltb}
 use borrow.Author.Tests.{ltb-false}
-use Rattle.find_window.specs.declared.find.Finding.{Finding}
-use Rattle.find_window.specs.declared.find.Finding.the-variants.{Found, Refused as NoWindow}
-use Rattle.find_window.specs.declared.refusal.Refusal.the-variants.{PastBuffer}
+use Rattle.data_window.specs.declared.find.Finding.{Finding}
+use Rattle.data_window.specs.declared.find.Finding.the-variants.{Found, Refused as NoWindow}
+use Rattle.data_window.specs.declared.refusal.Refusal.the-variants.{PastBuffer}
 use Rattle.data_cells.specs.declared.place.Place.the-variants.{At, Refused}
-use Rattle.byte_order.specs.Orders.{placed}
+use Rattle.data_order.specs.Orders.{placed}
 use Rattle.data_cells.specs.Cells.{placeOf}
 
 -- the last test of the cells, turned

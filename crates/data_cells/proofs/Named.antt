@@ -3,10 +3,10 @@ use Prim.Native.Nat.{ℕ, _-_, _<_}
 use mathlib.Core.List.{List}
 use mathlib.Core.Path.{_≡_, refl, sym, _∙_}
 use Rattle.board.proofs.Handles.{handle-place}
-use Rattle.find_window.specs.declared.find.Finding.{Finding}
-use Rattle.find_window.specs.declared.find.Finding.the-variants.{Found, Refused}
-use Rattle.find_window.specs.Find.{findIn}
-use Rattle.find_window.proofs.Meaning.{found-means}
+use Rattle.data_window.specs.declared.find.Finding.{Finding}
+use Rattle.data_window.specs.declared.find.Finding.the-variants.{Found, Refused}
+use Rattle.data_window.specs.Find.{findIn}
+use Rattle.data_window.proofs.Meaning.{found-means}
 use Rattle.data_cells.specs.declared.place.Place.{Place}
 use Rattle.data_cells.specs.Cells.{placeOf, placeIn, dataPlace}
 

@@ -7,13 +7,13 @@ use lib.ListN.{getD}
 use lib.Seq.{sets}
 use Rattle.board.specs.Layout.{bases, byteOrder}
 use Rattle.numbers.specs.Numbers.{byteAt, big, bigBytes}
-use Rattle.find_window.specs.declared.find.Finding.{Finding}
-use Rattle.find_window.specs.declared.find.Finding.the-variants.{Found, Refused as NoWindow}
-use Rattle.find_window.specs.declared.refusal.Refusal.the-variants.{PastBuffer}
+use Rattle.data_window.specs.declared.find.Finding.{Finding}
+use Rattle.data_window.specs.declared.find.Finding.the-variants.{Found, Refused as NoWindow}
+use Rattle.data_window.specs.declared.refusal.Refusal.the-variants.{PastBuffer}
 use Rattle.data_cells.specs.declared.place.Place.{Place}
 use Rattle.data_cells.specs.declared.place.Place.the-variants.{At, Refused}
-use Rattle.find_window.specs.Find.{findIn}
-use Rattle.byte_order.specs.Orders.{placed, ordered}
+use Rattle.data_window.specs.Find.{findIn}
+use Rattle.data_order.specs.Orders.{placed, ordered}
 
 -- the first cell of an access, and the byte order; whether cells are past the buffer, which only an altered board has, is tested last
 abbrev pub cellsAt : ℕ → ℕ → ℕ → ℕ → ℕ → Place

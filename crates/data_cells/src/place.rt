@@ -7,11 +7,11 @@ use board::layout::Header;
 use board::layout::Records;
 use board::layout::Windows;
 use board::layout::byte_order;
-use byte_order::order::placed;
-use find_window::find::Finding;
-use find_window::find::Space;
-use find_window::find::find_window;
-use find_window::refusal::Refusal;
+use board::space::Space;
+use data_order::order::placed;
+use data_window::find::Finding;
+use data_window::find::find_window;
+use data_window::refusal::Refusal;
 use numbers::number::Width;
 use numbers::number::bytes_by_shift;
 use numbers::number::u32_at;
@@ -20,7 +20,7 @@ ghost use lib.ListN.{getD};
 ghost use Prim.Native.Nat.{_+_, _*_};
 ghost use Rattle.board.specs.Layout.{bases, byteOrder};
 ghost use Rattle.numbers.specs.Numbers.{bytes};
-ghost use Rattle.find_window.specs.Find.{spaceNumber};
+ghost use Rattle.board.specs.Spaces.{spaceNumber};
 ghost use Rattle.data_cells.specs.Cells.{cellsAt, placeIn, dataPlace};
 
 // The first cell and the byte order of an access, or why it is refused.

@@ -7,14 +7,14 @@ use Rattle.board.specs.Parts.{Parts, withRegisters, withCells, withHooks, withU
 use Rattle.board.specs.declared.address.BusAddress.{BusAddress}
 use Rattle.numbers.specs.declared.number.Width.{Width}
 use Rattle.board.specs.declared.status.Status.{Status}
-use Rattle.find_window.specs.declared.find.Space.{Space}
+use Rattle.board.specs.declared.space.Space.{Space}
 use Rattle.resource.specs.Resource.{gave, getResource}
-use Rattle.interrupt.specs.Chain.{Changed, changed}
+use Rattle.interrupt_hook.specs.Chain.{Changed, changed}
 use Rattle.card_used.specs.Used.{marked, setCardUsed}
 use Rattle.reset.specs.Reset.{resetTo, reset}
 use Rattle.load.specs.Load.{loaded, load}
 use Rattle.image_writer.specs.Write.{written, write}
-use Rattle.refusals.specs.declared.verdict.Verdict.{Verdict}
+use Rattle.image_refusals.specs.declared.verdict.Verdict.{Verdict}
 use Rattle.call.specs.declared.answer.Answer.{Answer}
 use Rattle.call.specs.declared.call.Call.{Call}
 use Rattle.call.specs.declared.call.Call.the-variants.{Load, Reset, WriteImage, Config, Data, GetResource, SetCardUsed, Ask}

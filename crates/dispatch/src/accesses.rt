@@ -1,22 +1,22 @@
 // Accesses to registers and to cells.
-use access::data::fast_read_data;
-use access::data::read_data;
-use access::data::write_data;
 use board::address::BusAddress;
 use board::layout::CellOffsets;
 use board::layout::Header;
 use board::layout::Records;
 use board::layout::Registers;
 use board::layout::Windows;
+use board::space::Space;
 use call::answer::Answer;
 use call::answer::of_fast_read;
 use call::answer::of_read;
 use call::answer::of_status;
 use call::call::Access;
-use config::write::write_config;
 use config_read::read::fast_read_config;
 use config_read::read::read_config;
-use find_window::find::Space;
+use config_write::write::write_config;
+use data_access::data::fast_read_data;
+use data_access::data::read_data;
+use data_access::data::write_data;
 use numbers::number::Width;
 ghost use mathlib.Core.Path.{_≡_};
 ghost use Rattle.reference.specs.State.{configured, configAccess, stored, dataAccess};

@@ -1,4 +1,6 @@
 // The calls that change nothing.
+use address_convert::convert::bus_to_cpu;
+use address_convert::convert::cpu_to_bus;
 use board::layout::Header;
 use board::layout::Hooks;
 use board::layout::Records;
@@ -16,9 +18,7 @@ use call::call::Query;
 use call::searches::class_answer;
 use call::searches::device_answer;
 use card_used::used::get_card_used;
-use chain_listing::listing::list_chain;
-use conversions::convert::bus_to_cpu;
-use conversions::convert::cpu_to_bus;
+use interrupt_list::listing::list_chain;
 use unsupported::unsupported::get_routing;
 use unsupported::unsupported::set_interrupt;
 use unsupported::unsupported::special_cycle;

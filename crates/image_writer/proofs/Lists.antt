@@ -6,7 +6,7 @@ use mathlib.Core.List.{List, _++_, append-nil, append-assoc}
 use lib.ListN.{length, take, drop, length-append, length-drop, drop-of-length-le}
 use lib.Seq.{take-length, take-all, take-at, drop-at, length-take-le, drop-drop}
 use Rattle.numbers.specs.Tables.{tableFrom}
-use Rattle.image_format.specs.Image.{trailerSize, trailer}
+use Rattle.image_layout.specs.Image.{trailerSize, trailer}
 
 pub trailer-length : (count sum : ℕ) → length (trailer count sum) ≡ trailerSize
 unfolding tableFrom

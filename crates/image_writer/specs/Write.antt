@@ -5,7 +5,7 @@ use mathlib.Core.List.{List, _++_}
 use lib.Dec.{ltb, eqb}
 use lib.ListN.{length, drop}
 use Rattle.board.specs.Handles.{functionCount}
-use Rattle.image_format.specs.Image.{imageSize, imageOf}
+use Rattle.image_layout.specs.Image.{imageSize, imageOf}
 
 -- the number of the refusal, 0 for none, and what the lent output holds
 pub record Written : Type 0 where

@@ -4,16 +4,16 @@ use board::layout::Header;
 use board::layout::RECORD;
 use board::layout::Records;
 use bytes::copy;
-use image_format::layout::IMAGE_RECORD;
-use image_format::layout::TRAILER;
-use image_format::layout::image_size;
-use image_format::sum::sum_of;
+use image_layout::layout::IMAGE_RECORD;
+use image_layout::layout::TRAILER;
+use image_layout::layout::image_size;
+use image_layout::sum::sum_of;
 ghost use mathlib.Core.Path.{_≡_};
 ghost use Prim.Native.Nat.{_+_, _*_, _/_, _%_, _<_, _≤_};
 ghost use mathlib.Core.List.{_++_};
 ghost use lib.ListN.{length, drop};
 ghost use Rattle.board.specs.Layout.{functionsMax, recordSize};
-ghost use Rattle.image_format.specs.Image.{imageSize, trailer, imageOf};
+ghost use Rattle.image_layout.specs.Image.{imageSize, trailer, imageOf};
 ghost use Rattle.image_writer.specs.Write.{written, write};
 
 // The byte of a number whose unit is worth so much.

@@ -5,13 +5,13 @@ use mathlib.Core.Path.{_≡_, refl, _∙_, ap}
 use mathlib.Core.List.{List, [], _∷_, _++_}
 use lib.ListN.{length, getD, take, drop, replicate}
 use Rattle.board.specs.Layout.{functionsMax, recordSize, entriesAt, entrySize, bases, windowsMax, exponent}
-use Rattle.image_format.specs.Image.{countOf, recordsRange, recordsOf}
-use Rattle.image_format.specs.declared.layout.Range.{Range}
-use Rattle.image_format.proofs.Ranges.{part, range-part}
+use Rattle.image_layout.specs.Image.{countOf, recordsRange, recordsOf}
+use Rattle.image_layout.specs.declared.layout.Range.{Range}
+use Rattle.image_layout.proofs.Ranges.{part, range-part}
 use Rattle.load.specs.Load.{padded}
-use Rattle.cells.specs.Cells.{total}
+use Rattle.cell_layout.specs.Cells.{total}
 use Rattle.image_writer.proofs.Lists.{copied}
-use Rattle.cells.proofs.Ranges.{before-same}
+use Rattle.cell_layout.proofs.Ranges.{before-same}
 
 pub drop-zeros : (n m : ℕ) → drop n (replicate {A = ℕ} m 0) ≡ replicate (m - n) 0
 drop-zeros zero m = let e : m - 0 ≡ m = omega arith in rw e

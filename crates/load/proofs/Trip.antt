@@ -14,18 +14,18 @@ use Rattle.board.specs.Parts.{Parts}
 use Rattle.board.specs.Handles.{headerOf, functionCount}
 use Rattle.numbers.proofs.Numbers.{big-below, big-bytes, bytes-big}
 use Rattle.numbers.proofs.Tables.{table-length}
-use Rattle.cells.specs.Cells.{total, offsetsOf}
-use Rattle.image_format.specs.Image.{imageRecord, imageSize, back, distanceOf, countOf, editionOf, sumOf, recordsOf, sum, trailer}
-use Rattle.refusals.specs.Refusals.{accepted, isAccepted}
-use Rattle.refusals.specs.Steps.{cellsVerdict}
-use Rattle.image.specs.Check.{factsOf, checked}
+use Rattle.cell_layout.specs.Cells.{total, offsetsOf}
+use Rattle.image_layout.specs.Image.{imageRecord, imageSize, back, distanceOf, countOf, editionOf, sumOf, recordsOf, sum, trailer}
+use Rattle.image_refusals.specs.Refusals.{accepted, isAccepted}
+use Rattle.image_refusals.specs.Steps.{cellsVerdict}
+use Rattle.image_check.specs.Check.{factsOf, checked}
 use Rattle.reset.specs.Reset.{restarted}
 use Rattle.load.specs.Load.{Loaded, loaded, load, padded, installed}
 use Rattle.image_writer.specs.Write.{Written, write, written}
 use Rattle.load.specs.Meaning.{rewritten, RoundTrip, WrittenBack, ImageAlone}
-use Rattle.refusals.specs.declared.verdict.Verdict.{Verdict}
+use Rattle.image_refusals.specs.declared.verdict.Verdict.{Verdict}
 use Rattle.image_writer.proofs.Lists.{trailer-length}
-use Rattle.image.proofs.Accepted.{Fine, Accepted, accepted-image, accepted-elsewhere, records-length}
+use Rattle.image_check.proofs.Accepted.{Fine, Accepted, accepted-image, accepted-elsewhere, records-length}
 
 -- what an image says of itself: its trailer's numbers, and its records
 record Says (image r : List ℕ) (n s : ℕ) : Type 0 where

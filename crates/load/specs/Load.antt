@@ -7,12 +7,12 @@ use Rattle.numbers.specs.Tables.{filledUp}
 use Rattle.board.specs.Parts.{Parts}
 use Rattle.board.specs.Handles.{headerOf}
 use Rattle.board.specs.Layout.{functionsMax, recordSize, exponent}
-use Rattle.cells.specs.Cells.{offsetsOf}
+use Rattle.cell_layout.specs.Cells.{offsetsOf}
 use Rattle.reset.specs.Reset.{restarted}
-use Rattle.image_format.specs.Image.{countOf, recordsOf}
-use Rattle.image.specs.Check.{judged, checked}
-use Rattle.refusals.specs.Refusals.{isAccepted}
-use Rattle.refusals.specs.declared.verdict.Verdict.{Verdict}
+use Rattle.image_layout.specs.Image.{countOf, recordsOf}
+use Rattle.image_check.specs.Check.{judged, checked}
+use Rattle.image_refusals.specs.Refusals.{isAccepted}
+use Rattle.image_refusals.specs.declared.verdict.Verdict.{Verdict}
 
 -- the loaded records, zeros after the last
 abbrev pub padded : List ℕ → List ℕ

@@ -5,8 +5,8 @@ use mathlib.Core.Path.{_≡_}
 use lib.ListN.{length}
 use Rattle.numbers.specs.Numbers.{byteAt}
 use Rattle.board.specs.Parts.{Parts}
-use Rattle.image_format.specs.Image.{imageSize, countOf}
-use Rattle.refusals.specs.Refusals.{accepted}
+use Rattle.image_layout.specs.Image.{imageSize, countOf}
+use Rattle.image_refusals.specs.Refusals.{accepted}
 use Rattle.image_writer.specs.Write.{Written, write}
 use Rattle.load.specs.Load.{load}
 

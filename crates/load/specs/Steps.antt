@@ -4,8 +4,8 @@ use mathlib.Core.List.{List}
 use mathlib.Core.Path.{_≡_}
 use Rattle.board.specs.Handles.{headerOf}
 use Rattle.board.specs.Layout.{exponent}
-use Rattle.cells.specs.Cells.{offsetsOf}
-use Rattle.image_format.specs.Image.{countOf, recordsOf}
+use Rattle.cell_layout.specs.Cells.{offsetsOf}
+use Rattle.image_layout.specs.Image.{countOf, recordsOf}
 use Rattle.load.specs.Load.{padded}
 
 -- header, records and offsets of an accepted image; all else follows from them

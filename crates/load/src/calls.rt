@@ -7,17 +7,17 @@ use board::layout::Records;
 use board::layout::Registers;
 use board::layout::Used;
 use board::layout::Windows;
-use image::check::check_image;
-use image::check::judge;
-use refusals::verdict::Verdict;
-use refusals::verdict::is_accepted;
+use image_check::check::check_image;
+use image_check::check::judge;
+use image_refusals::verdict::Verdict;
+use image_refusals::verdict::is_accepted;
 use reset::reset::reset;
 ghost use mathlib.Core.Path.{_≡_};
 ghost use mathlib.Core.Bool.{true};
 ghost use lib.ListN.{length};
 ghost use Rattle.board.specs.Parts.{parts};
-ghost use Rattle.refusals.specs.Refusals.{isAccepted};
-ghost use Rattle.image.specs.Check.{judged};
+ghost use Rattle.image_refusals.specs.Refusals.{isAccepted};
+ghost use Rattle.image_check.specs.Check.{judged};
 ghost use Rattle.load.specs.Load.{loaded, takenIn, load, loadJudged};
 
 // The board of an image that a verdict accepts; else everything stays as it was. It is not public: of a verdict that the image did not earn it would have

@@ -5,14 +5,14 @@ use board::layout::Header;
 use board::layout::RECORD;
 use board::layout::Records;
 use bytes::copy;
-use cells::cells::place_cells;
-use image_format::layout::records_range;
-use image_format::trailer::trailer_of;
+use cell_layout::cells::place_cells;
+use image_layout::layout::records_range;
+use image_layout::trailer::trailer_of;
 ghost use mathlib.Core.Path.{_≡_};
 ghost use Prim.Native.Nat.{_≤_};
 ghost use lib.ListN.{length};
 ghost use Rattle.board.specs.Layout.{functionsMax};
-ghost use Rattle.image_format.specs.Image.{imageSize, countOf, recordsOf};
+ghost use Rattle.image_layout.specs.Image.{imageSize, countOf, recordsOf};
 ghost use Rattle.load.specs.Load.{padded};
 ghost use Rattle.load.specs.Steps.{Installed};
 

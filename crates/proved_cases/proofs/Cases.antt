@@ -6,17 +6,17 @@ use Rattle.window_list.specs.Windows.{windowAt, gather, openWindows, put, putAl
 use Rattle.window_listing.specs.Listing.{listedNumber, listedValues}
 use Rattle.config_read.specs.Target.{target}
 use Rattle.search.specs.Search.{matching, searchNumber}
-use Rattle.find_window.specs.Find.{inList, find}
-use Rattle.descriptor.specs.Descriptor.{descriptorBytes, bytesOf}
-use Rattle.shown_start.specs.Start.{startIn}
+use Rattle.data_window.specs.Find.{inList, find}
+use Rattle.resource_descriptor.specs.Descriptor.{descriptorBytes, bytesOf}
+use Rattle.window_start.specs.Start.{startIn}
 use Rattle.resource.specs.Resource.{windowsFrom, described, resource}
-use Rattle.chain_listing.specs.Listing.{placeNumber, placeValues}
-use Rattle.interrupt.specs.Meaning.{isAmong}
-use Rattle.window_entry.specs.Entry.{entryOk}
-use Rattle.record.specs.Record.{recordOk}
-use Rattle.cells.specs.Cells.{cellsBefore}
-use Rattle.image_format.specs.Image.{sum}
-use Rattle.refusals.specs.Refusals.{firstBad, firstRefusal}
+use Rattle.interrupt_list.specs.Listing.{placeNumber, placeValues}
+use Rattle.interrupt_hook.specs.Meaning.{isAmong}
+use Rattle.image_entry.specs.Entry.{entryOk}
+use Rattle.image_record.specs.Record.{recordOk}
+use Rattle.cell_layout.specs.Cells.{cellsBefore}
+use Rattle.image_layout.specs.Image.{sum}
+use Rattle.image_refusals.specs.Refusals.{firstBad, firstRefusal}
 use Rattle.reference.specs.Reference.{placeIn, split, verdict, referenceStep, referenceQueried}
 use Rattle.reference.specs.Run.{referenceAnswers}
 use Rattle.proved_cases.specs.B1.{stored, b1}

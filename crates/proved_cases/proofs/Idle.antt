@@ -13,11 +13,11 @@ use Rattle.numbers.specs.Tables.{tableFrom}
 use Rattle.window_list.specs.Windows.{windowAt, gather, openWindows, put, putAll, listOf}
 use Rattle.window_listing.specs.Listing.{listedNumber, listedValues}
 use Rattle.config_read.specs.Target.{target}
-use Rattle.window_entry.specs.Entry.{entryOk}
-use Rattle.record.specs.Record.{recordOk}
-use Rattle.cells.specs.Cells.{cellsBefore}
-use Rattle.image_format.specs.Image.{sum}
-use Rattle.refusals.specs.Refusals.{firstBad, firstRefusal}
+use Rattle.image_entry.specs.Entry.{entryOk}
+use Rattle.image_record.specs.Record.{recordOk}
+use Rattle.cell_layout.specs.Cells.{cellsBefore}
+use Rattle.image_layout.specs.Image.{sum}
+use Rattle.image_refusals.specs.Refusals.{firstBad, firstRefusal}
 use Rattle.reference.specs.Reference.{split, verdict, referenceStep, referenceQueried}
 use Rattle.reference.specs.Run.{Heard}
 use Rattle.proved_cases.specs.B1.{stored, b1}

@@ -8,8 +8,8 @@ use Rattle.numbers.specs.Numbers.{bigBytes}
 use Rattle.board.specs.Statuses.{successful, deviceNotFound, generalError}
 use Rattle.numbers.specs.declared.number.Width.the-variants.{Byte, Long}
 use Rattle.data_cells.specs.Cells.{valueAt}
-use Rattle.byte_order.specs.Orders.{placed}
-use Rattle.find_window.specs.declared.find.Space.the-variants.{Memory}
+use Rattle.data_order.specs.Orders.{placed}
+use Rattle.board.specs.declared.space.Space.the-variants.{Memory}
 use Rattle.call.specs.declared.answer.Answer.{Answer}
 use Rattle.call.specs.declared.call.Call.{Call}
 use Rattle.call.specs.declared.call.Access.the-variants.{Read, Write}

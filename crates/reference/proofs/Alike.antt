@@ -16,7 +16,7 @@ use Rattle.numbers.proofs.Tables.{table-length}
 use Rattle.data_cells.specs.Cells.{cellsAfter}
 use Rattle.data_cells.specs.declared.place.Place.the-variants.{At}
 use Rattle.data_cells.proofs.Cells.{only-its-cells}
-use Rattle.cells.specs.Cells.{zeroed}
+use Rattle.cell_layout.specs.Cells.{zeroed}
 use Rattle.reset.proofs.Zeroed.{zeroed-length, zeroed-past}
 use Rattle.reference.specs.Claims.{accessed, Alike}
 use Rattle.reference.proofs.Tests.{ifEither}

@@ -9,12 +9,12 @@ use lib.ListN.{length}
 use borrow.Author.Tests.{ne-eqb, eqb-true, eqb-false}
 use Rattle.board.specs.Layout.{functionsMax}
 use Rattle.numbers.proofs.Tests.{either-false}
-use Rattle.hooks.specs.Hooks.{Hook, chosen, packed}
-use Rattle.interrupt.specs.Chain.{unhooked}
-use Rattle.interrupt.specs.Meaning.{Every, isAmong, without}
-use Rattle.interrupt.proofs.Packed.{every-map}
-use Rattle.interrupt.proofs.Repacked.{packed-unhook}
-use Rattle.interrupt.proofs.Room.{Once}
+use Rattle.interrupt_array.specs.Hooks.{Hook, chosen, packed}
+use Rattle.interrupt_hook.specs.Chain.{unhooked}
+use Rattle.interrupt_hook.specs.Meaning.{Every, isAmong, without}
+use Rattle.interrupt_hook.proofs.Packed.{every-map}
+use Rattle.interrupt_hook.proofs.Repacked.{packed-unhook}
+use Rattle.interrupt_hook.proofs.Room.{Once}
 
 pub every-append : (P : Hook → Type 0) (a b : List Hook) → Every P a → Every P b → Every P (a ++ b)
 every-append P [] b x y = y

@@ -8,10 +8,10 @@ use lib.Dec.{eqb, leb}
 use lib.ListN.{length}
 use borrow.Author.Tests.{ne-eqb, eqb-true, leb-true, leb-false}
 use Rattle.numbers.specs.Numbers.{byteAt}
-use Rattle.hooks.specs.Hooks.{Hook, hook, lastLine}
-use Rattle.interrupt.specs.Meaning.{Every, isAmong, without}
-use Rattle.interrupt.proofs.Packed.{every-map}
-use Rattle.interrupt.proofs.Room.{Once, Within, once-few}
+use Rattle.interrupt_array.specs.Hooks.{Hook, hook, lastLine}
+use Rattle.interrupt_hook.specs.Meaning.{Every, isAmong, without}
+use Rattle.interrupt_hook.proofs.Packed.{every-map}
+use Rattle.interrupt_hook.proofs.Room.{Once, Within, once-few}
 use Rattle.reference.specs.Reference.{recordOf}
 use Rattle.reference.specs.Run.{lineByLine}
 use Rattle.reference.proofs.Tests.{ifTest, ifEither}

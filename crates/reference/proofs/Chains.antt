@@ -7,13 +7,13 @@ use lib.Dec.{leb, ltb}
 use borrow.Author.Tests.{leb-true, ltb-false, not-true}
 use Rattle.board.specs.Parts.{withHooks}
 use Rattle.numbers.proofs.Tests.{both-true}
-use Rattle.hooks.specs.Hooks.{Hook, hook, lineOf, pinOf, lastLine, isRouted, chainOf, packed}
-use Rattle.interrupt.specs.Chain.{Changed}
-use Rattle.chain_listing.specs.Listing.{listed, chainListing, chainNumberOf, chainValuesOf}
-use Rattle.interrupt.specs.Meaning.{without}
-use Rattle.chain_listing.specs.declared.listing.ChainListing.{ChainListing}
-use Rattle.chain_listing.proofs.Listings.{chain-number, chain-values}
-use Rattle.interrupt.proofs.Room.{without-once}
+use Rattle.interrupt_array.specs.Hooks.{Hook, hook, lineOf, pinOf, lastLine, isRouted, chainOf, packed}
+use Rattle.interrupt_hook.specs.Chain.{Changed}
+use Rattle.interrupt_list.specs.Listing.{listed, chainListing, chainNumberOf, chainValuesOf}
+use Rattle.interrupt_hook.specs.Meaning.{without}
+use Rattle.interrupt_list.specs.declared.listing.ChainListing.{ChainListing}
+use Rattle.interrupt_list.proofs.Listings.{chain-number, chain-values}
+use Rattle.interrupt_hook.proofs.Room.{without-once}
 use Rattle.load.specs.Load.{padded}
 use Rattle.call.specs.declared.answer.Answer.{Answer}
 use Rattle.call.specs.declared.call.Call.the-variants.{HookInterrupt, UnhookInterrupt}

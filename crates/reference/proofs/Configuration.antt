@@ -13,10 +13,10 @@ use Rattle.window_list.specs.Windows.{windowList}
 use Rattle.window_list.specs.Kept.{keptList}
 use Rattle.config_read.specs.Target.{target}
 use Rattle.config_read.specs.Read.{readOf, fastReadOf}
-use Rattle.config.specs.Write.{Wrote, writeTo}
+use Rattle.config_write.specs.Write.{Wrote, writeTo}
 use Rattle.search.specs.Search.{deviceMatches, classMatches, matching, searched, foundNumber, searchNumber}
 use Rattle.config_read.specs.declared.target.Target.{Target}
-use Rattle.config.proofs.Moves.{list-follows}
+use Rattle.config_write.proofs.Moves.{list-follows}
 use Rattle.search.proofs.Searches.{search-number, matching-same, device-same, class-same}
 use Rattle.call.specs.declared.call.Access.the-variants.{Read, FastRead, Write}
 use Rattle.call.specs.declared.call.Call.the-variants.{Config}

@@ -15,15 +15,16 @@ use Rattle.numbers.specs.declared.number.Width.{Width}
 use Rattle.window.specs.Window.{Window}
 use Rattle.window_list.proofs.KeptArray.{kept-of}
 use Rattle.data_cells.specs.Cells.{placeOf, dataPlace}
-use Rattle.find_window.specs.Find.{spaceNumber, holds, offers, inList, find, findIn}
-use Rattle.byte_order.specs.Orders.{placed}
-use Rattle.find_window.specs.declared.find.Finding.{Finding}
-use Rattle.find_window.specs.declared.find.Finding.the-variants.{Found, Refused as NoWindow}
-use Rattle.find_window.specs.declared.find.Space.{Space}
-use Rattle.find_window.proofs.Searches.{held}
-use Rattle.cells.specs.Cells.{offsetsOf}
+use Rattle.board.specs.Spaces.{spaceNumber}
+use Rattle.data_window.specs.Find.{holds, offers, inList, find, findIn}
+use Rattle.data_order.specs.Orders.{placed}
+use Rattle.data_window.specs.declared.find.Finding.{Finding}
+use Rattle.data_window.specs.declared.find.Finding.the-variants.{Found, Refused as NoWindow}
+use Rattle.board.specs.declared.space.Space.{Space}
+use Rattle.data_window.proofs.Searches.{held}
+use Rattle.cell_layout.specs.Cells.{offsetsOf}
 use Rattle.load.specs.Load.{padded}
-use Rattle.cells.proofs.Ranges.{offset-at, cell-ranges}
+use Rattle.cell_layout.proofs.Ranges.{offset-at, cell-ranges}
 use Rattle.call.specs.declared.call.Access.the-variants.{Read, FastRead, Write}
 use Rattle.call.specs.declared.call.Call.the-variants.{Data}
 use Rattle.call.specs.declared.call.Query.the-variants.{BusToCpu, CpuToBus}

@@ -10,11 +10,11 @@ use borrow.Author.Tests.{ltb-false}
 use Rattle.board.specs.Parts.{Parts}
 use Rattle.board.specs.Layout.{functionsMax, registersEach, markSize}
 use Rattle.numbers.specs.Numbers.{bytes}
-use Rattle.config.specs.Write.{movesWindows}
-use Rattle.find_window.specs.Find.{spaceNumber}
-use Rattle.cells.specs.Cells.{total}
-use Rattle.refusals.specs.Refusals.{isAccepted}
-use Rattle.image_format.specs.Image.{imageSize, sum, trailer}
+use Rattle.config_write.specs.Write.{movesWindows}
+use Rattle.board.specs.Spaces.{spaceNumber}
+use Rattle.cell_layout.specs.Cells.{total}
+use Rattle.image_refusals.specs.Refusals.{isAccepted}
+use Rattle.image_layout.specs.Image.{imageSize, sum, trailer}
 use Rattle.image_writer.proofs.Lists.{trailer-length}
 use Rattle.call.specs.declared.call.Call.{Call}
 use Rattle.call.specs.declared.call.Access.the-variants.{Read, FastRead, Write}

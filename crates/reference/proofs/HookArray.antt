@@ -8,13 +8,13 @@ use lib.Dec.{eqb}
 use lib.ListN.{length}
 use borrow.Author.Tests.{eq-eqb, ne-eqb}
 use Rattle.board.specs.Layout.{functionsMax}
-use Rattle.hooks.specs.Hooks.{Hook, hook, hookAt, lineOf, lastLine, chosen, chainOf, packed}
-use Rattle.interrupt.specs.Chain.{isHooked, isFree, hooked}
-use Rattle.interrupt.specs.Meaning.{Every, isAmong}
-use Rattle.interrupt.proofs.Entries.{chosen-append}
-use Rattle.interrupt.proofs.Packed.{every-map, packed-chain, packed-hooked, packed-free}
-use Rattle.interrupt.proofs.Repacked.{UpTo, Above, packed-hook}
-use Rattle.interrupt.proofs.Room.{free-room}
+use Rattle.interrupt_array.specs.Hooks.{Hook, hook, hookAt, lineOf, lastLine, chosen, chainOf, packed}
+use Rattle.interrupt_hook.specs.Chain.{isHooked, isFree, hooked}
+use Rattle.interrupt_hook.specs.Meaning.{Every, isAmong}
+use Rattle.interrupt_hook.proofs.Entries.{chosen-append}
+use Rattle.interrupt_hook.proofs.Packed.{every-map, packed-chain, packed-hooked, packed-free}
+use Rattle.interrupt_hook.proofs.Repacked.{UpTo, Above, packed-hook}
+use Rattle.interrupt_hook.proofs.Room.{free-room}
 use Rattle.load.specs.Load.{padded}
 use Rattle.reference.specs.Reference.{Reference, joined}
 use Rattle.reference.specs.Run.{lineByLine}

@@ -18,14 +18,14 @@ use Rattle.window.specs.Window.{Window, startOf, isWindow, windowLength, isOpen
 use Rattle.window.proofs.Exponents.{window-range}
 use Rattle.window_list.specs.Meaning.{OpenAt}
 use Rattle.window_list.proofs.Meaning.{means}
-use Rattle.byte_order.specs.Orders.{placed}
-use Rattle.find_window.specs.declared.find.Finding.{Finding}
-use Rattle.find_window.specs.declared.find.Finding.the-variants.{Found, Refused as NoWindow}
+use Rattle.data_order.specs.Orders.{placed}
+use Rattle.data_window.specs.declared.find.Finding.{Finding}
+use Rattle.data_window.specs.declared.find.Finding.the-variants.{Found, Refused as NoWindow}
 use Rattle.data_cells.specs.declared.place.Place.the-variants.{At}
-use Rattle.find_window.proofs.Searches.{Held, held}
-use Rattle.find_window.proofs.Meaning.{found-means}
-use Rattle.byte_order.proofs.Windows.{inside-window}
-use Rattle.cells.specs.Cells.{slotCells, cellsBefore}
+use Rattle.data_window.proofs.Searches.{Held, held}
+use Rattle.data_window.proofs.Meaning.{found-means}
+use Rattle.data_order.proofs.Windows.{inside-window}
+use Rattle.cell_layout.specs.Cells.{slotCells, cellsBefore}
 use Rattle.reference.specs.Reference.{Reference, entryOf, exponentOf, windowsOf, findFor, placeIn, placeFor}
 
 -- an accepted access lies in the cells of one window of its function

@@ -12,10 +12,10 @@ use Rattle.board.specs.Layout.{functionsMax, bases, windowsMax}
 use Rattle.numbers.specs.Numbers.{byteAt, bigBytes}
 use Rattle.numbers.proofs.Numbers.{big-same}
 use Rattle.data_cells.specs.Cells.{valueAt, cellsAfter}
-use Rattle.byte_order.specs.Orders.{ordered}
+use Rattle.data_order.specs.Orders.{ordered}
 use Rattle.data_cells.proofs.Cells.{only-its-cells}
-use Rattle.cells.specs.Cells.{slotCells, cellsBefore, total, zeroed}
-use Rattle.cells.proofs.Ranges.{before-apart}
+use Rattle.cell_layout.specs.Cells.{slotCells, cellsBefore, total, zeroed}
+use Rattle.cell_layout.proofs.Ranges.{before-apart}
 use Rattle.reference.specs.Reference.{Reference, exponentOf, withCellsOf}
 use Rattle.reference.proofs.Tests.{ifEither}
 use Rattle.reference.proofs.InSlot.{InSlot}

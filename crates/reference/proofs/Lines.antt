@@ -7,8 +7,8 @@ use mathlib.Core.List.{List, _++_, append-nil, append-assoc}
 use mathlib.Core.Path.{_≡_, refl, sym, _∙_, ap}
 use lib.Dec.{eqb}
 use borrow.Author.Tests.{eq-eqb, ne-eqb}
-use Rattle.hooks.specs.Hooks.{Hook, lastLine}
-use Rattle.interrupt.specs.Meaning.{Every}
+use Rattle.interrupt_array.specs.Hooks.{Hook, lastLine}
+use Rattle.interrupt_hook.specs.Meaning.{Every}
 use Rattle.reference.specs.Run.{lineByLine}
 use Rattle.reference.proofs.Among.{every-append}
 

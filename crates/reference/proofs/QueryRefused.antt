@@ -12,11 +12,11 @@ use Rattle.window.specs.Window.{Window}
 use Rattle.window.specs.Kept.{unpacked}
 use Rattle.window_listing.specs.Listing.{listing, numberOf, valuesOf}
 use Rattle.search.specs.Search.{searched, foundNumber}
-use Rattle.conversions.specs.declared.convert.ToBus.{ToBus}
-use Rattle.conversions.specs.declared.convert.ToCpu.{ToCpu}
-use Rattle.hooks.specs.Hooks.{Hook, lastLine, chainOf}
-use Rattle.chain_listing.specs.Listing.{listed, chainNumberOf, chainValuesOf}
-use Rattle.chain_listing.specs.declared.listing.ChainListing.{ChainListing}
+use Rattle.address_convert.specs.declared.convert.ToBus.{ToBus}
+use Rattle.address_convert.specs.declared.convert.ToCpu.{ToCpu}
+use Rattle.interrupt_array.specs.Hooks.{Hook, lastLine, chainOf}
+use Rattle.interrupt_list.specs.Listing.{listed, chainNumberOf, chainValuesOf}
+use Rattle.interrupt_list.specs.declared.listing.ChainListing.{ChainListing}
 use Rattle.card_used.specs.declared.used.CardUsed.{CardUsed}
 use Rattle.call.specs.declared.answer.Answer.{Answer}
 use Rattle.call.specs.declared.call.Query.{Query}

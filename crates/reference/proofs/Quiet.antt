@@ -5,7 +5,7 @@ use mathlib.Core.Path.{_≡_, refl}
 use mathlib.Core.List.{List}
 use borrow.Author.Tests.{eqb-true}
 use Rattle.numbers.specs.Numbers.{bytes}
-use Rattle.find_window.specs.Find.{spaceNumber}
+use Rattle.board.specs.Spaces.{spaceNumber}
 use Rattle.data_cells.specs.declared.place.Place.{Place}
 use Rattle.data_cells.specs.declared.place.Place.the-variants.{At, Refused as NoPlace}
 use Rattle.call.specs.declared.call.Call.{Call}

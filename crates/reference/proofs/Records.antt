@@ -8,10 +8,10 @@ use lib.ListN.{length, take, drop, length-append, length-drop, List·getD-append
 use lib.Seq.{getD-append-add, getD-take, getD-drop, drop-drop, length-take-le}
 use Rattle.numbers.specs.Numbers.{byteAt}
 use Rattle.board.specs.Layout.{functionsMax, recordSize, recordByte}
-use Rattle.record.specs.Record.{recordOk}
-use Rattle.cells.specs.Cells.{total}
-use Rattle.image_format.specs.Image.{imageRecord, recordAt}
-use Rattle.refusals.specs.Refusals.{cellsMax, firstBad}
+use Rattle.image_record.specs.Record.{recordOk}
+use Rattle.cell_layout.specs.Cells.{total}
+use Rattle.image_layout.specs.Image.{imageRecord, recordAt}
+use Rattle.image_refusals.specs.Refusals.{cellsMax, firstBad}
 use Rattle.reference.specs.Reference.{recordOf, exponentOf, joined, split}
 
 -- every record has all its bytes

@@ -15,14 +15,15 @@ use Rattle.board.specs.Handles.{functionCount, isHandle}
 use Rattle.config_read.specs.Target.{target}
 use Rattle.config_read.specs.declared.target.Target.{Target}
 use Rattle.config_read.specs.declared.target.Target.the-variants.{Function, Refused}
-use Rattle.config.specs.Write.{writeConfig}
+use Rattle.config_write.specs.Write.{writeConfig}
 use Rattle.data_cells.specs.Cells.{dataPlace}
-use Rattle.find_window.specs.Find.{spaceNumber, statusOf}
-use Rattle.find_window.specs.declared.refusal.Refusal.{Refusal as DataRefusal}
-use Rattle.find_window.specs.declared.refusal.Refusal.the-variants.{BadHandle, ShortCells, NotAligned, Nothing, Contested, WidthMissing, PastBuffer}
-use Rattle.find_window.specs.declared.find.Space.{Space}
+use Rattle.board.specs.Spaces.{spaceNumber}
+use Rattle.data_window.specs.Find.{statusOf}
+use Rattle.data_window.specs.declared.refusal.Refusal.{Refusal as DataRefusal}
+use Rattle.data_window.specs.declared.refusal.Refusal.the-variants.{BadHandle, ShortCells, NotAligned, Nothing, Contested, WidthMissing, PastBuffer}
+use Rattle.board.specs.declared.space.Space.{Space}
 use Rattle.data_cells.specs.declared.place.Place.{Place}
-use Rattle.image_format.specs.Image.{imageSize}
+use Rattle.image_layout.specs.Image.{imageSize}
 use Rattle.reset.specs.Reset.{reset}
 use Rattle.load.specs.Load.{load}
 use Rattle.image_writer.specs.Write.{write}

@@ -8,10 +8,10 @@ use lib.Dec.{eqb, leb, ltb}
 use lib.ListN.{length}
 use Rattle.board.specs.Parts.{Parts, withHooks, withUsed}
 use Rattle.board.specs.Handles.{isHandle}
-use Rattle.descriptor.specs.Descriptor.{size}
+use Rattle.resource_descriptor.specs.Descriptor.{size}
 use Rattle.resource.specs.Resource.{Gave, windowBases, resource, sourceOf}
-use Rattle.hooks.specs.Hooks.{lineOf, pinOf, isRouted}
-use Rattle.interrupt.specs.Chain.{Changed, isHooked, isFree}
+use Rattle.interrupt_array.specs.Hooks.{lineOf, pinOf, isRouted}
+use Rattle.interrupt_hook.specs.Chain.{Changed, isHooked, isFree}
 use Rattle.card_used.specs.Used.{Marked}
 use Rattle.call.specs.declared.answer.Answer.{Answer}
 use Rattle.call.specs.declared.call.Call.{Call}

@@ -15,8 +15,8 @@ use Rattle.numbers.proofs.Numbers.{little-same, big-same}
 use Rattle.numbers.proofs.Tables.{table-length, table-get}
 use Rattle.window_list.specs.Windows.{listOf, windowList}
 use Rattle.window_list.proofs.Meaning.{list-same}
-use Rattle.config.specs.Write.{bytesWritten}
-use Rattle.config.proofs.Written.{masked-write}
+use Rattle.config_write.specs.Write.{bytesWritten}
+use Rattle.config_write.proofs.Written.{masked-write}
 use Rattle.load.specs.Load.{padded}
 use Rattle.load.proofs.Lists.{zeros-after}
 use Rattle.reference.specs.Reference.{Reference, recordOf, exponentOf, joined, registersAfter}

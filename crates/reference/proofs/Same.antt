@@ -11,17 +11,17 @@ use Rattle.numbers.specs.Tables.{tableFrom}
 use Rattle.board.specs.Handles.{headerOf}
 use Rattle.board.specs.Layout.{functionsMax, bases, windowsMax, entriesAt, entrySize, registersEach, hookSize, markSize, exponent}
 use Rattle.numbers.proofs.Tables.{table-same}
-use Rattle.hooks.specs.Hooks.{lastLine, numbers, packed}
+use Rattle.interrupt_array.specs.Hooks.{lastLine, numbers, packed}
 use Rattle.card_used.specs.Used.{marksOf}
-use Rattle.cells.specs.Cells.{total, cellsBefore, offsetsOf}
-use Rattle.image_format.specs.Image.{imageRecord, imageSize, countOf, recordsOf, recordAt}
-use Rattle.record.specs.Record.{recordOk}
-use Rattle.refusals.specs.Refusals.{isAccepted}
-use Rattle.image.specs.Check.{factsOf, checked}
+use Rattle.cell_layout.specs.Cells.{total, cellsBefore, offsetsOf}
+use Rattle.image_layout.specs.Image.{imageRecord, imageSize, countOf, recordsOf, recordAt}
+use Rattle.image_record.specs.Record.{recordOk}
+use Rattle.image_refusals.specs.Refusals.{isAccepted}
+use Rattle.image_check.specs.Check.{factsOf, checked}
 use Rattle.reset.specs.Reset.{firstRegister, registersOf, restarted}
 use Rattle.load.specs.Load.{padded, installed}
-use Rattle.cells.proofs.Ranges.{offset-at, before-same}
-use Rattle.image.proofs.Accepted.{accepted-image, records-length, records-ruled}
+use Rattle.cell_layout.proofs.Ranges.{offset-at, before-same}
+use Rattle.image_check.proofs.Accepted.{accepted-image, records-length, records-ruled}
 use Rattle.reference.specs.Reference.{recordOf, exponentOf, joined, fresh, imageRecords, imageFacts, verdict}
 use Rattle.reference.specs.Run.{lineByLine, partsOf}
 use Rattle.reference.proofs.Records.{Sized, Ruled, split-length, split-sized, split-joined, split-byte, split-record, bad-same}

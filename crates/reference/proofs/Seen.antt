@@ -10,18 +10,18 @@ use Rattle.board.specs.Layout.{functionsMax}
 use Rattle.numbers.specs.Numbers.{bytes}
 use Rattle.config_read.specs.declared.target.Target.{Target}
 use Rattle.config_read.specs.declared.target.Target.the-variants.{Function, Refused}
-use Rattle.access.specs.Data.{readAt, fastReadAt}
-use Rattle.find_window.specs.Find.{spaceNumber}
-use Rattle.find_window.specs.declared.find.Finding.{Finding}
-use Rattle.find_window.specs.declared.find.Finding.the-variants.{Found, Refused as NoWindow}
+use Rattle.data_access.specs.Data.{readAt, fastReadAt}
+use Rattle.board.specs.Spaces.{spaceNumber}
+use Rattle.data_window.specs.declared.find.Finding.{Finding}
+use Rattle.data_window.specs.declared.find.Finding.the-variants.{Found, Refused as NoWindow}
 use Rattle.data_cells.specs.declared.place.Place.{Place}
 use Rattle.data_cells.specs.declared.place.Place.the-variants.{At, Refused as NoPlace}
-use Rattle.hooks.specs.Hooks.{Hook, isRouted}
-use Rattle.interrupt.specs.Meaning.{isAmong}
+use Rattle.interrupt_array.specs.Hooks.{Hook, isRouted}
+use Rattle.interrupt_hook.specs.Meaning.{isAmong}
 use Rattle.card_used.specs.Used.{Mark}
-use Rattle.cells.specs.Cells.{total}
-use Rattle.refusals.specs.Refusals.{isAccepted}
-use Rattle.image_format.specs.Image.{imageSize}
+use Rattle.cell_layout.specs.Cells.{total}
+use Rattle.image_refusals.specs.Refusals.{isAccepted}
+use Rattle.image_layout.specs.Image.{imageSize}
 use Rattle.call.specs.declared.answer.Answer.{Answer}
 use Rattle.call.specs.declared.call.Call.{Call}
 use Rattle.call.specs.declared.call.Access.the-variants.{Read, FastRead, Write}

@@ -13,14 +13,14 @@ use Rattle.window_list.specs.Windows.{gather, openWindows, putAll, listOf}
 use Rattle.window_list.specs.Kept.{keptList}
 use Rattle.window_list.proofs.KeptArray.{kept-of}
 use Rattle.window_listing.proofs.Answers.{number-is, values-are}
-use Rattle.cells.specs.Cells.{cellsBefore, total, offsetsOf}
-use Rattle.refusals.specs.Refusals.{isAccepted}
-use Rattle.image_format.specs.Image.{imageSize, imageOf}
+use Rattle.cell_layout.specs.Cells.{cellsBefore, total, offsetsOf}
+use Rattle.image_refusals.specs.Refusals.{isAccepted}
+use Rattle.image_layout.specs.Image.{imageSize, imageOf}
 use Rattle.reset.specs.Reset.{reset}
 use Rattle.load.specs.Load.{padded, load}
 use Rattle.image_writer.specs.Write.{write}
 use Rattle.reset.proofs.Zeroed.{zeroed-length}
-use Rattle.cells.proofs.Ranges.{offset-at}
+use Rattle.cell_layout.proofs.Ranges.{offset-at}
 use Rattle.call.specs.declared.call.Call.{Call}
 use Rattle.call.specs.declared.call.Access.the-variants.{Read, FastRead, Write}
 use Rattle.call.specs.declared.call.Call.the-variants.{Load, Reset, WriteImage, Config, Data, GetResource, HookInterrupt, UnhookInterrupt, SetCardUsed, Ask}

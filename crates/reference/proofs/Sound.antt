@@ -10,9 +10,9 @@ use borrow.Author.Tests.{leb-true}
 use Rattle.board.specs.Handles.{isHandle}
 use Rattle.board.specs.Layout.{functionsMax}
 use Rattle.numbers.proofs.Tests.{both-true}
-use Rattle.hooks.specs.Hooks.{Hook}
+use Rattle.interrupt_array.specs.Hooks.{Hook}
 use Rattle.card_used.specs.Used.{Mark}
-use Rattle.cells.specs.Cells.{total}
+use Rattle.cell_layout.specs.Cells.{total}
 use Rattle.call.specs.declared.answer.Answer.{Answer}
 use Rattle.call.specs.declared.call.Call.{Call}
 use Rattle.call.specs.declared.call.Query.{Query}

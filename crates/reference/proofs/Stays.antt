@@ -12,11 +12,11 @@ use lib.Seq.{sets, length-sets}
 use borrow.Author.Tests.{ltb-false, ne-eqb, eqb-false}
 use Rattle.board.specs.Layout.{functionsMax, markSize}
 use Rattle.numbers.proofs.Stores.{sets-other}
-use Rattle.descriptor.specs.Descriptor.{size, bytesOf}
+use Rattle.resource_descriptor.specs.Descriptor.{size, bytesOf}
 use Rattle.resource.specs.Resource.{Gave, windowBases, descriptors, resource}
 use Rattle.resource.proofs.Shows.{described-size}
-use Rattle.hooks.specs.Hooks.{Hook, isRouted}
-use Rattle.interrupt.specs.Meaning.{isAmong}
+use Rattle.interrupt_array.specs.Hooks.{Hook, isRouted}
+use Rattle.interrupt_hook.specs.Meaning.{isAmong}
 use Rattle.card_used.specs.Used.{Mark, markNumber}
 use Rattle.call.specs.declared.answer.Answer.{Answer}
 use Rattle.call.specs.declared.call.Call.the-variants.{GetResource, HookInterrupt, UnhookInterrupt, SetCardUsed}

@@ -12,7 +12,7 @@ use Rattle.numbers.proofs.Tests.{both-true}
 use Rattle.config_read.specs.Target.{fits, target}
 use Rattle.config_read.specs.declared.target.Target.{Target}
 use Rattle.config_read.specs.declared.target.Target.the-variants.{Function, Refused}
-use Rattle.find_window.specs.declared.refusal.Refusal.{Refusal}
+use Rattle.data_window.specs.declared.refusal.Refusal.{Refusal}
 use Rattle.data_cells.specs.declared.place.Place.{Place}
 use Rattle.data_cells.specs.declared.place.Place.the-variants.{At, Refused as NoPlace}
 

@@ -8,10 +8,10 @@ use lib.Dec.{ltb, eqb}
 use lib.IntN.{pos}
 use lib.ListN.{length}
 use Rattle.board.specs.Layout.{functionsMax}
-use Rattle.image_format.specs.Image.{trailerSize, imageSize}
-use Rattle.refusals.specs.Refusals.{Facts, imageMax, cellsMax, accepted, refused, badRecord, isAccepted, firstRefusal}
-use Rattle.image.specs.Check.{factsOf, checked}
-use Rattle.refusals.specs.declared.verdict.Verdict.{Verdict}
+use Rattle.image_layout.specs.Image.{trailerSize, imageSize}
+use Rattle.image_refusals.specs.Refusals.{Facts, imageMax, cellsMax, accepted, refused, badRecord, isAccepted, firstRefusal}
+use Rattle.image_check.specs.Check.{factsOf, checked}
+use Rattle.image_refusals.specs.declared.verdict.Verdict.{Verdict}
 use Rattle.call.specs.declared.call.Call.the-variants.{Load}
 use Rattle.reference.specs.Claims.{Among, refusals}
 use Rattle.reference.proofs.Tests.{ifTest}

@@ -12,14 +12,14 @@ use Rattle.board.specs.Layout.{bases, registersEach, markSize}
 use Rattle.numbers.specs.Numbers.{bytes}
 use Rattle.numbers.specs.declared.number.Width.{Width}
 use Rattle.board.specs.Statuses.{funcNotSupported, deviceNotFound, badRegisterNumber, bufferTooSmall, generalError, badHandle, setFailed}
-use Rattle.config.specs.Write.{movesWindows}
-use Rattle.find_window.specs.Find.{spaceNumber}
+use Rattle.config_write.specs.Write.{movesWindows}
+use Rattle.board.specs.Spaces.{spaceNumber}
 use Rattle.data_cells.specs.declared.place.Place.{Place}
 use Rattle.data_cells.specs.declared.place.Place.the-variants.{At, Refused}
-use Rattle.descriptor.specs.Descriptor.{size}
+use Rattle.resource_descriptor.specs.Descriptor.{size}
 use Rattle.resource.specs.Resource.{windowBases}
-use Rattle.cells.specs.Cells.{slotCells, cellsBefore, total}
-use Rattle.image_format.specs.Image.{imageSize}
+use Rattle.cell_layout.specs.Cells.{slotCells, cellsBefore, total}
+use Rattle.image_layout.specs.Image.{imageSize}
 use Rattle.call.specs.declared.answer.Answer.{Answer}
 use Rattle.call.specs.declared.call.Call.{Call}
 use Rattle.call.specs.declared.call.Access.{Access}

@@ -13,32 +13,33 @@ use Rattle.window_list.specs.Windows.{listOf}
 use Rattle.window_listing.specs.Listing.{listedNumber, listedValues}
 use Rattle.config_read.specs.Target.{target}
 use Rattle.config_read.specs.Read.{readOf, fastReadOf}
-use Rattle.config.specs.Write.{written}
+use Rattle.config_write.specs.Write.{written}
 use Rattle.search.specs.Search.{devices, classes, searchNumber}
 use Rattle.config_read.specs.declared.target.Target.{Target}
 use Rattle.config_read.specs.declared.target.Target.the-variants.{Function, Refused}
 use Rattle.data_cells.specs.Cells.{cellsAfter}
-use Rattle.conversions.specs.Convert.{toCpu, toBus}
-use Rattle.access.specs.Data.{readAt, fastReadAt}
-use Rattle.find_window.specs.Find.{spaceNumber, offers, find, statusOf}
-use Rattle.byte_order.specs.Orders.{placed}
-use Rattle.find_window.specs.declared.find.Finding.{Finding}
-use Rattle.find_window.specs.declared.find.Finding.the-variants.{Found, Refused as NoWindow}
+use Rattle.address_convert.specs.Convert.{toCpu, toBus}
+use Rattle.data_access.specs.Data.{readAt, fastReadAt}
+use Rattle.board.specs.Spaces.{spaceNumber}
+use Rattle.data_window.specs.Find.{offers, find, statusOf}
+use Rattle.data_order.specs.Orders.{placed}
+use Rattle.data_window.specs.declared.find.Finding.{Finding}
+use Rattle.data_window.specs.declared.find.Finding.the-variants.{Found, Refused as NoWindow}
 use Rattle.data_cells.specs.declared.place.Place.{Place}
 use Rattle.data_cells.specs.declared.place.Place.the-variants.{At, Refused as NoPlace}
 use Rattle.resource.specs.Resource.{Source, resource}
-use Rattle.hooks.specs.Hooks.{Hook, hook, isRouted}
-use Rattle.interrupt.specs.Chain.{hookChecks, unhookChecks}
-use Rattle.interrupt.specs.Meaning.{isAmong, without}
-use Rattle.chain_listing.specs.Listing.{chainNumber, chainValues}
+use Rattle.interrupt_array.specs.Hooks.{Hook, hook, isRouted}
+use Rattle.interrupt_hook.specs.Chain.{hookChecks, unhookChecks}
+use Rattle.interrupt_hook.specs.Meaning.{isAmong, without}
+use Rattle.interrupt_list.specs.Listing.{chainNumber, chainValues}
 use Rattle.card_used.specs.Used.{Mark, newMark, usedOf, setChecks}
-use Rattle.cells.specs.Cells.{cellsBefore, total, zeroed}
-use Rattle.image_format.specs.Image.{imageRecord, imageSize, countOf, recordsOf, sum, trailer}
-use Rattle.record.specs.Record.{recordOk}
+use Rattle.cell_layout.specs.Cells.{cellsBefore, total, zeroed}
+use Rattle.image_layout.specs.Image.{imageRecord, imageSize, countOf, recordsOf, sum, trailer}
+use Rattle.image_record.specs.Record.{recordOk}
 use Rattle.reset.specs.Reset.{firstRegister}
-use Rattle.refusals.specs.Refusals.{Facts, imageMax, refused, isAccepted, firstRefusal}
-use Rattle.image.specs.Check.{facts}
-use Rattle.refusals.specs.declared.verdict.Verdict.{Verdict}
+use Rattle.image_refusals.specs.Refusals.{Facts, imageMax, refused, isAccepted, firstRefusal}
+use Rattle.image_check.specs.Check.{facts}
+use Rattle.image_refusals.specs.declared.verdict.Verdict.{Verdict}
 use Rattle.call.specs.declared.answer.Answer.{Answer}
 use Rattle.call.specs.declared.call.Call.{Call}
 use Rattle.call.specs.declared.call.Access.the-variants.{Read, FastRead, Write}

@@ -7,9 +7,9 @@ use Rattle.board.specs.Parts.{Parts, parts}
 use Rattle.board.specs.Handles.{headerOf}
 use Rattle.board.specs.Layout.{headerSize, functionsMax, recordSize, registersEach, windowsMax, hookSize, markSize}
 use Rattle.window_list.specs.Kept.{keptList}
-use Rattle.hooks.specs.Hooks.{Hook, lastLine, packed}
+use Rattle.interrupt_array.specs.Hooks.{Hook, lastLine, packed}
 use Rattle.card_used.specs.Used.{marksOf}
-use Rattle.cells.specs.Cells.{offsetsOf}
+use Rattle.cell_layout.specs.Cells.{offsetsOf}
 use Rattle.load.specs.Load.{padded}
 use Rattle.call.specs.declared.answer.Answer.{Answer}
 use Rattle.call.specs.declared.call.Call.{Call}

@@ -9,19 +9,19 @@ use Rattle.board.specs.Layout.{registerByte}
 use Rattle.numbers.specs.Numbers.{bytes}
 use Rattle.numbers.specs.declared.number.Width.{Width}
 use Rattle.board.specs.declared.address.BusAddress.{BusAddress}
-use Rattle.find_window.specs.declared.find.Space.{Space}
+use Rattle.board.specs.declared.space.Space.{Space}
 use Rattle.window.specs.Kept.{unpacked}
 use Rattle.window_listing.specs.Listing.{listing, numberOf, valuesOf}
 use Rattle.config_read.specs.Read.{readConfig, fastReadConfig}
 use Rattle.search.specs.Search.{devices, classes, searched, foundNumber}
-use Rattle.config.specs.Write.{writeConfig}
-use Rattle.conversions.specs.Convert.{busToCpu, cpuToBus}
-use Rattle.access.specs.Data.{readData, fastReadData, writeData}
-use Rattle.find_window.specs.Find.{spaceNumber}
+use Rattle.config_write.specs.Write.{writeConfig}
+use Rattle.address_convert.specs.Convert.{busToCpu, cpuToBus}
+use Rattle.data_access.specs.Data.{readData, fastReadData, writeData}
+use Rattle.board.specs.Spaces.{spaceNumber}
 use Rattle.resource.specs.Resource.{getResource}
-use Rattle.hooks.specs.Hooks.{chainOf}
-use Rattle.interrupt.specs.Chain.{hookInterrupt, unhookInterrupt}
-use Rattle.chain_listing.specs.Listing.{chainListing, chainNumberOf, chainValuesOf}
+use Rattle.interrupt_array.specs.Hooks.{chainOf}
+use Rattle.interrupt_hook.specs.Chain.{hookInterrupt, unhookInterrupt}
+use Rattle.interrupt_list.specs.Listing.{chainListing, chainNumberOf, chainValuesOf}
 use Rattle.card_used.specs.Used.{getCardUsed, setCardUsed}
 use Rattle.unsupported.specs.Unsupported.{specialCycle, getRouting, setInterrupt}
 use Rattle.reset.specs.Reset.{reset}

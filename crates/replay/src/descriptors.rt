@@ -3,9 +3,9 @@ use crate::print::decimal;
 use crate::print::hexadecimal;
 use crate::print::text;
 use board::layout::BASES;
-use descriptor::descriptor::Descriptor;
-use walker::step::Step;
-use walker::step::descriptor_step;
+use resource_descriptor::descriptor::Descriptor;
+use resource_walk::step::Step;
+use resource_walk::step::descriptor_step;
 
 // The fields of a descriptor in their order.
 fn fields(d: Descriptor) {

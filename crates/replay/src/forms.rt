@@ -3,7 +3,7 @@ use crate::descriptors::descriptors;
 use crate::print::decimal;
 use crate::print::hexadecimal;
 use crate::print::text;
-use encoding::encode::CALL_HEADER;
+use call_encoding::encode::CALL_HEADER;
 use numbers::number::Width;
 use numbers::number::big_at;
 use numbers::number::byte_at;

@@ -5,7 +5,7 @@ use mathlib.Core.Path.{_≡_, refl, sym, _∙_, ap}
 use mathlib.Core.List.{List, [], _∷_}
 use lib.ListN.{length, getD, drop, set, replicate, length-append, length-replicate, length-drop}
 use lib.Seq.{getD-append-add, getD-drop}
-use Rattle.cells.specs.Cells.{zeroed}
+use Rattle.cell_layout.specs.Cells.{zeroed}
 
 pub zeroed-more : (i : ℕ) (l : List ℕ) → i < length l → set (zeroed i l) i 0 ≡ zeroed (suc i) l
 zeroed-more i [] h = absurd (omega arith)

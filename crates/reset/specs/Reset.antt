@@ -11,7 +11,7 @@ use Rattle.board.specs.Parts.{Parts, parts}
 use Rattle.board.specs.Layout.{functionsMax, registersEach, hookSize, markSize, windowsMax, recordByte}
 use Rattle.window_list.specs.Windows.{windowList}
 use Rattle.window_list.specs.Kept.{keptList}
-use Rattle.cells.specs.Cells.{zeroed}
+use Rattle.cell_layout.specs.Cells.{zeroed}
 
 -- what a load and a reset put into register `at` of the function at place i, where r i at is byte `at` of its record: the reset value
 abbrev pub firstRegister : (ℕ → ℕ → ℕ) → ℕ → ℕ → ℕ

@@ -19,7 +19,7 @@ ghost use Prim.Native.Nat.{_+_, _*_, _<_, _≤_};
 ghost use lib.ListN.{length, getD, take};
 ghost use Rattle.board.specs.Layout.{functionsMax, recordSize, registersEach, windowsMax};
 ghost use Rattle.board.specs.Parts.{parts};
-ghost use Rattle.cells.specs.Cells.{zeroed};
+ghost use Rattle.cell_layout.specs.Cells.{zeroed};
 ghost use Rattle.reset.specs.Reset.{firstRegisters, registersOf, restarted};
 
 // The reset values of one function into its registers, after those of the functions before it.

@@ -14,12 +14,12 @@ use Rattle.numbers.specs.Numbers.{byteAt, big, bigBytes}
 use Rattle.numbers.proofs.Numbers.{big-bytes, big-below}
 use Rattle.numbers.proofs.Tables.{table-length}
 use Rattle.window.specs.Window.{spaceOf}
-use Rattle.descriptor.specs.declared.descriptor.Descriptor.{Descriptor}
-use Rattle.descriptor.specs.Descriptor.{flags, descriptorBytes, fieldsAt}
+use Rattle.resource_descriptor.specs.declared.descriptor.Descriptor.{Descriptor}
+use Rattle.resource_descriptor.specs.Descriptor.{flags, descriptorBytes, fieldsAt}
 use Rattle.window.specs.Window.{isWindow}
 use Rattle.resource.specs.Resource.{descriptorOf, sourceOf}
-use Rattle.shown_start.proofs.Starts.{start-small}
-use Rattle.descriptor.proofs.Fields.{shown-small}
+use Rattle.window_start.proofs.Starts.{start-small}
+use Rattle.resource_descriptor.proofs.Fields.{shown-small}
 use Rattle.window.proofs.Exponents.{window-range}
 
 -- a number of w bytes in a list, m places after others

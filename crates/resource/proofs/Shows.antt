@@ -16,12 +16,12 @@ use Rattle.board.specs.Statuses.{successful, bufferTooSmall, generalError, badH
 use Rattle.board.specs.declared.status.Status.{Status}
 use Rattle.numbers.proofs.Stores.{sets-other}
 use Rattle.window.specs.Window.{spaceOf}
-use Rattle.descriptor.specs.declared.descriptor.Descriptor.{Descriptor}
-use Rattle.descriptor.specs.Descriptor.{size, descriptorBytes, bytesOf, fieldsAt}
+use Rattle.resource_descriptor.specs.declared.descriptor.Descriptor.{Descriptor}
+use Rattle.resource_descriptor.specs.Descriptor.{size, descriptorBytes, bytesOf, fieldsAt}
 use Rattle.window.specs.Window.{isWindow}
 use Rattle.resource.specs.Resource.{windowsFrom, windowBases, Source, descriptorOf, described, descriptors, Gave, gave, resource, sourceOf, getResource}
 use Rattle.resource.specs.Meaning.{Shows, ResourceShows}
-use Rattle.descriptor.proofs.Fields.{bytes-size}
+use Rattle.resource_descriptor.proofs.Fields.{bytes-size}
 use Rattle.resource.proofs.Turns.{last-one}
 use Rattle.resource.proofs.Back.{Small, fields-back, last-flag, parts-small}
 

@@ -9,10 +9,10 @@ use lib.ListN.{length}
 use lib.Seq.{sets}
 use borrow.Author.Tests.{eq-eqb, ne-eqb}
 use Rattle.board.specs.Layout.{bases}
-use Rattle.descriptor.specs.Descriptor.{size, descriptorBytes, bytesOf}
+use Rattle.resource_descriptor.specs.Descriptor.{size, descriptorBytes, bytesOf}
 use Rattle.window.specs.Window.{isWindow}
 use Rattle.resource.specs.Resource.{windowsFrom, Source, descriptorOf, described}
-use Rattle.descriptor.proofs.Fields.{after, bytes-size}
+use Rattle.resource_descriptor.proofs.Fields.{after, bytes-size}
 
 module _ (k : ℕ → ℕ) (b : ℕ) where
   -- base register b has a window, or has none; or there is none

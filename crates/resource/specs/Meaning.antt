@@ -9,7 +9,7 @@ use lib.ListN.{length, getD}
 use Rattle.board.specs.Layout.{bases}
 use Rattle.numbers.specs.Numbers.{byteAt}
 use Rattle.board.specs.Statuses.{successful}
-use Rattle.descriptor.specs.Descriptor.{size, fieldsAt, isLast}
+use Rattle.resource_descriptor.specs.Descriptor.{size, fieldsAt, isLast}
 use Rattle.resource.specs.Resource.{Source, windowBases, descriptorOf, resource, sourceOf, getResource}
 
 -- of a buffer before and after: the j-th window's base register has its descriptor, all six fields, at 20 j, marked exactly if it is the last; the rest stays

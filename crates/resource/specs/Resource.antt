@@ -11,9 +11,9 @@ use Rattle.board.specs.Statuses.{successful, bufferTooSmall, generalError, badH
 use Rattle.board.specs.declared.status.Status.{Status}
 use Rattle.window.specs.Kept.{unpacked}
 use Rattle.window.specs.Window.{Window, spaceOf, isWindow}
-use Rattle.shown_start.specs.Start.{startIn}
-use Rattle.descriptor.specs.declared.descriptor.Descriptor.{Descriptor}
-use Rattle.descriptor.specs.Descriptor.{size, flags, bytesOf}
+use Rattle.window_start.specs.Start.{startIn}
+use Rattle.resource_descriptor.specs.declared.descriptor.Descriptor.{Descriptor}
+use Rattle.resource_descriptor.specs.Descriptor.{size, flags, bytesOf}
 
 -- of n base registers from b on, those that have a window; k is their length exponent
 unfoldable pub windowsFrom : (ℕ → ℕ) → ℕ → ℕ → List ℕ

@@ -13,9 +13,9 @@ use Rattle.numbers.specs.Tables.{tableFrom}
 use Rattle.call.specs.declared.answer.Answer.{Answer}
 use Rattle.call.specs.declared.call.Call.{Call}
 use Rattle.reference.specs.State.{Next, next, step}
-use Rattle.encoding.specs.declared.decode.Decoded.{Decoded}
-use Rattle.encoding.specs.declared.decode.Decoded.the-variants.{Known, Malformed}
-use Rattle.encoding.specs.Format.{headerSize, decoded, answerBytes}
+use Rattle.call_encoding.specs.declared.decode.Decoded.{Decoded}
+use Rattle.call_encoding.specs.declared.decode.Decoded.the-variants.{Known, Malformed}
+use Rattle.call_encoding.specs.Format.{headerSize, decoded, answerBytes}
 use Rattle.script.specs.Script.{ran, fitting, front, ownBytes, turnOf}
 
 -- no constructor is another

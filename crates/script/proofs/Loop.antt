@@ -8,9 +8,9 @@ use lib.ListN.{length, take, drop, length-append, length-drop, drop-of-length-le
 use lib.Seq.{length-take-le, take-all, take-at, drop-at}
 use Rattle.board.specs.Parts.{Parts}
 use Rattle.call.specs.declared.call.Call.{Call}
-use Rattle.encoding.specs.declared.decode.Decoded.{Decoded}
-use Rattle.encoding.specs.declared.decode.Decoded.the-variants.{Known, Malformed}
-use Rattle.encoding.specs.Format.{headerSize, answerBytes}
+use Rattle.call_encoding.specs.declared.decode.Decoded.{Decoded}
+use Rattle.call_encoding.specs.declared.decode.Decoded.the-variants.{Known, Malformed}
+use Rattle.call_encoding.specs.Format.{headerSize, answerBytes}
 use Rattle.script.specs.Script.{Ran, ran, front, turnOf}
 use Rattle.script.proofs.Fronts.{whole, front-short, answer-length, turn-none, turn-is}
 use Rattle.script.proofs.Runs.{runFrom, resumed, resumed-twice, stepAt, from-none, from-known}

@@ -10,8 +10,8 @@ use Rattle.call.specs.declared.call.Call.{Call}
 use Rattle.reference.specs.Run.{asked, answers, after, start}
 use Rattle.reference.specs.State.{Next, step}
 use Rattle.reference.proofs.Refinement.{refinement}
-use Rattle.encoding.specs.declared.decode.Decoded.the-variants.{Known, Malformed}
-use Rattle.encoding.specs.Format.{headerSize, answerBytes}
+use Rattle.call_encoding.specs.declared.decode.Decoded.the-variants.{Known, Malformed}
+use Rattle.call_encoding.specs.Format.{headerSize, answerBytes}
 use Rattle.script.specs.Script.{Ran, ran, front, ownBytes, callsFrom, bytesOf, rendered, runOf}
 use Rattle.script.proofs.Fronts.{whole}
 

@@ -9,15 +9,15 @@ use Rattle.numbers.specs.Tables.{tableFrom}
 use Rattle.call.specs.declared.call.Call.{Call}
 use Rattle.reference.specs.Reference.{referenceStart}
 use Rattle.reference.specs.Run.{Asked, referenceAnswers, referenceAfter, partsOf}
-use Rattle.encoding.specs.declared.decode.Decoded.{Decoded}
-use Rattle.encoding.specs.declared.decode.Decoded.the-variants.{Known, Malformed}
-use Rattle.encoding.specs.declared.fields.Fields.{Fields}
-use Rattle.encoding.specs.Format.{headerSize, headerOf, encoded}
+use Rattle.call_encoding.specs.declared.decode.Decoded.{Decoded}
+use Rattle.call_encoding.specs.declared.decode.Decoded.the-variants.{Known, Malformed}
+use Rattle.call_encoding.specs.declared.fields.Fields.{Fields}
+use Rattle.call_encoding.specs.Format.{headerSize, headerOf, encoded}
 use Rattle.script.specs.Script.{front, ownBytes, callsFrom, bytesOf, rendered, ran, runOf}
-use Rattle.encoding.specs.Meaning.{U32, Holds}
+use Rattle.call_encoding.specs.Meaning.{U32, Holds}
 use Rattle.script.specs.Meaning.{HoldsAll, scriptOf, ScriptRead, EveryRun}
 use Rattle.script.proofs.Fronts.{whole, front-short, front-whole}
-use Rattle.encoding.proofs.Meaning.{encode-decode, decode-encode}
+use Rattle.call_encoding.proofs.Meaning.{encode-decode, decode-encode}
 use Rattle.script.proofs.Runs.{calls-known, calls-none, own-size}
 
 header-length : (f : Fields) (own : ℕ) → length (headerOf f own) ≡ headerSize

@@ -5,9 +5,9 @@ use mathlib.Core.Path.{_≡_}
 use lib.ListN.{length, drop}
 use Rattle.reference.specs.Reference.{referenceStart}
 use Rattle.reference.specs.Run.{Asked, referenceAnswers, referenceAfter, partsOf}
-use Rattle.encoding.specs.declared.decode.Decoded.the-variants.{Malformed}
-use Rattle.encoding.specs.Format.{encoded}
-use Rattle.encoding.specs.Meaning.{U32, Holds}
+use Rattle.call_encoding.specs.declared.decode.Decoded.the-variants.{Malformed}
+use Rattle.call_encoding.specs.Format.{encoded}
+use Rattle.call_encoding.specs.Meaning.{U32, Holds}
 use Rattle.script.specs.Script.{front, callsIn, stopIn, rendered, ran, runOf}
 
 -- the script of calls with their own buffers

@@ -9,9 +9,9 @@ use Rattle.call.specs.declared.call.Call.{Call}
 use Rattle.reference.specs.Reference.{referenceStart}
 use Rattle.reference.specs.State.{step}
 use Rattle.reference.specs.Run.{Asked, Heard, asked, referenceAnswers, referenceAfter, partsOf}
-use Rattle.encoding.specs.declared.decode.Decoded.{Decoded}
-use Rattle.encoding.specs.declared.decode.Decoded.the-variants.{Known, Malformed}
-use Rattle.encoding.specs.Format.{headerSize, decoded, answerBytes}
+use Rattle.call_encoding.specs.declared.decode.Decoded.{Decoded}
+use Rattle.call_encoding.specs.declared.decode.Decoded.the-variants.{Known, Malformed}
+use Rattle.call_encoding.specs.Format.{headerSize, decoded, answerBytes}
 
 -- a call's own buffer fits into what remains, or the call is malformed
 abbrev pub fitting : ℕ → Decoded → Decoded

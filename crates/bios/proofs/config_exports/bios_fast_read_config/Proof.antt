@@ -5,8 +5,8 @@ use borrow.Author.Needs.{needs}
 use Rattle.bios.proofs.config_exports.bios_fast_read_config.Statement.{statement}
 use Rattle.bios.proofs.config_exports.bios_fast_read_config.Tie as tie
 
-width-of-requires : tie.Need-width-of-requires
-width-of-requires c κs = search needs
+width-from-c-requires : tie.Need-width-from-c-requires
+width-from-c-requires c κs = search needs
 
 enum-known-width : tie.Need-enum-known-width
 enum-known-width c = search needs
@@ -23,19 +23,19 @@ enum-told c = search needs
 returns : tie.Need-returns
 returns c =
     let r = c .before .fast-read-config in
-    let w = sym (c .before .before .before .before .before .width-of .ensures) ∙ c .before .before .before .width .given .1 in
+    let w = sym (c .before .before .before .before .before .width-from-c .ensures) ∙ c .before .before .before .width .given .1 in
     rw (w, ← r .ensures, bool-number)
 
 returns-2 : tie.Need-returns-2
 returns-2 c =
-    let w = sym (c .before .before .width-of .ensures) ∙ c .enum-told .given .1 in
+    let w = sym (c .before .before .width-from-c .ensures) ∙ c .enum-told .given .1 in
     rw w
 
 pub bios-fast-read-config-spec : {M : Type 1} → statement M
 bios-fast-read-config-spec =
     tie.close
     (tie.spec
-    width-of-requires
+    width-from-c-requires
     enum-known-width
     fast-read-config-requires
     cast-fault

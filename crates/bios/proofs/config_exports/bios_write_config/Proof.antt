@@ -5,8 +5,8 @@ use borrow.Author.Needs.{needs}
 use Rattle.bios.proofs.config_exports.bios_write_config.Statement.{statement}
 use Rattle.bios.proofs.config_exports.bios_write_config.Tie as tie
 
-width-of-requires : tie.Need-width-of-requires
-width-of-requires c κs = search needs
+width-from-c-requires : tie.Need-width-from-c-requires
+width-from-c-requires c κs = search needs
 
 enum-known-width : tie.Need-enum-known-width
 enum-known-width c = search needs
@@ -26,19 +26,19 @@ number-requires-2 c κs = search needs
 returns : tie.Need-returns
 returns c =
     let r = c .before .write-config in
-    let w = sym (c .before .before .before .before .before .before .before .width-of .ensures) ∙ c .before .before .before .before .before .width .given .1 in
+    let w = sym (c .before .before .before .before .before .before .before .width-from-c .ensures) ∙ c .before .before .before .before .before .width .given .1 in
     rw (back _ (record { sfits = c .number .ok }), c .number .ensures, w, ← r .ensures)
 
 returns-2 : tie.Need-returns-2
 returns-2 c =
-    let w = sym (c .before .before .before .width-of .ensures) ∙ c .before .enum-told .given .1 in
+    let w = sym (c .before .before .before .width-from-c .ensures) ∙ c .before .enum-told .given .1 in
     rw (back _ (record { sfits = c .number2 .ok }), c .number2 .ensures, w)
 
 pub bios-write-config-spec : {M : Type 1} → statement M
 bios-write-config-spec =
     tie.close
     (tie.spec
-    width-of-requires
+    width-from-c-requires
     enum-known-width
     write-config-requires
     number-requires

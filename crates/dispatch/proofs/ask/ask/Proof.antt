@@ -2,7 +2,7 @@
 use mathlib.Core.Path.{refl, sym}
 use Rattle.window_listing.specs.Listing.{numberOf, valuesOf}
 use Rattle.search.proofs.Searches.{search-number}
-use Rattle.chain_listing.specs.Listing.{chainNumberOf, chainValuesOf}
+use Rattle.interrupt_list.specs.Listing.{chainNumberOf, chainValuesOf}
 use Rattle.call.specs.Answers.{answer, ofStatus, ofSearch, ofToCpu, ofToBus, ofChain, ofUsed}
 use Rattle.reference.specs.State.{queried}
 use Rattle.dispatch.proofs.Arms.{arm-asked}

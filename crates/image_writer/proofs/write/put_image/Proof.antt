@@ -3,10 +3,10 @@ use Prim.Native.Nat.{_*_, _-_, _≤_}
 use lib.ListN.{length, take, drop}
 use lib.Seq.{length-take-le}
 use mathlib.Core.Path.{_≡_, sym, ap, _∙_}
-use Rattle.image_format.specs.Image.{imageRecord, trailerSize}
+use Rattle.image_layout.specs.Image.{imageRecord, trailerSize}
 use Rattle.board.specs.Layout.{functionsMax, recordSize}
 use Rattle.image_writer.proofs.Lists.{copied, image-put, trailer-length}
-use Rattle.image_format.proofs.Lists.{sum-whole}
+use Rattle.image_layout.proofs.Lists.{sum-whole}
 use borrow.Author.Needs.{needs}
 use native.Mathlib.Omega.{arith}
 use Rattle.image_writer.proofs.write.put_image.Statement.{statement}

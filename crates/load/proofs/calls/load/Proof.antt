@@ -1,6 +1,6 @@
 -- `load`: the check, then the taking in; what is accepted was judged so.
 use mathlib.Core.Path.{_∙_}
-use Rattle.image.proofs.Accepted.{accepted-judged}
+use Rattle.image_check.proofs.Accepted.{accepted-judged}
 use Rattle.load.specs.Load.{load}
 use borrow.Author.Needs.{needs}
 use Rattle.load.proofs.calls.load.Statement.{statement}

@@ -6,10 +6,10 @@ use borrow.Author.Tests.{le-ltb, not-true, not-false}
 use Rattle.board.specs.Layout.{windowsMax}
 use Rattle.board.specs.Parts.{Parts}
 use Rattle.board.specs.declared.status.Status.{Status}
-use Rattle.cells.proofs.Ranges.{offset-at}
+use Rattle.cell_layout.proofs.Ranges.{offset-at}
 use Rattle.reset.specs.Reset.{restarted, ResetOutcome, resetTo, reset}
-use Rattle.image.specs.Check.{factsOf}
-use Rattle.image.proofs.Accepted.{fine}
+use Rattle.image_check.specs.Check.{factsOf}
+use Rattle.image_check.proofs.Accepted.{fine}
 use Rattle.load.proofs.Lists.{padded-total}
 use borrow.Author.Needs.{needs}
 use native.Mathlib.Omega.{arith}

@@ -1,5 +1,5 @@
 -- `copy_records`: the part of the image that holds the records, copied over zeros.
-use Rattle.image_format.proofs.Ranges.{ranged}
+use Rattle.image_layout.proofs.Ranges.{ranged}
 use Rattle.load.proofs.Lists.{records-copied}
 use borrow.Author.Needs.{needs}
 use native.Mathlib.Omega.{arith}

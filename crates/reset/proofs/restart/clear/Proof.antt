@@ -3,7 +3,7 @@ use Prim.Native.Nat.{_-_, _≤_}
 use mathlib.Core.Path.{_≡_, refl, _∙_, ap}
 use native.Mathlib.Numerals.{add-one}
 use lib.ListN.{length}
-use Rattle.cells.specs.Cells.{zeroed}
+use Rattle.cell_layout.specs.Cells.{zeroed}
 use Rattle.reset.proofs.Zeroed.{zeroed-more, zeroed-length}
 use borrow.Author.Needs.{needs}
 use native.Mathlib.Omega.{arith}

@@ -5,7 +5,7 @@ use lib.ListN.{length}
 use lib.Seq.{sets, length-sets}
 use borrow.Author.Tests.{not-true, not-false}
 use Rattle.board.specs.Layout.{bases}
-use Rattle.descriptor.specs.Descriptor.{size, bytesOf}
+use Rattle.resource_descriptor.specs.Descriptor.{size, bytesOf}
 use Rattle.resource.specs.Resource.{windowsFrom, described, descriptors, sourceOf}
 use Rattle.resource.proofs.Turns.{windows-one, windows-none, windows-end, last-one, put-more, put-end}
 use borrow.Author.Needs.{needs}

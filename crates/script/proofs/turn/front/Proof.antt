@@ -2,7 +2,7 @@
 use mathlib.Core.Path.{sym, _∙_}
 use lib.Seq.{length-take-le}
 use borrow.Author.Needs.{needs}
-use Rattle.encoding.specs.Format.{headerSize}
+use Rattle.call_encoding.specs.Format.{headerSize}
 use Rattle.script.proofs.Fronts.{front-short, front-other, front-cut, front-whole}
 use Rattle.script.proofs.turn.front.Statement.{statement}
 use Rattle.script.proofs.turn.front.Tie as tie

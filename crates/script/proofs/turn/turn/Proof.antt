@@ -3,7 +3,7 @@ use mathlib.Core.Path.{_≡_, sym, ap, _∙_}
 use native.Mathlib.Omega.{arith}
 use lib.ListN.{length}
 use borrow.Author.Needs.{needs}
-use Rattle.encoding.specs.declared.decode.Decoded.the-variants.{Known}
+use Rattle.call_encoding.specs.declared.decode.Decoded.the-variants.{Known}
 use Rattle.script.specs.Script.{front}
 use Rattle.script.proofs.Fronts.{whole, answer-length, header-room, turn-none, turn-done}
 use Rattle.script.proofs.turn.turn.Statement.{statement}

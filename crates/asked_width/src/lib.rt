@@ -1,2 +1,0 @@
-// Widths and spaces as C asks for them.
-pub mod width;

@@ -1,0 +1,5 @@
+// The two address spaces.
+pub enum Space {
+    Memory,
+    Io,
+}

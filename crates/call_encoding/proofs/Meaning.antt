@@ -1,0 +1,57 @@
+-- Encode then decode, and decode then encode.
+use Prim.Native.Nat.{ℕ, _%_, _^_}
+use native.Mathlib.Omega.{arith}
+use mathlib.Core.Bool.{Bool, true, false, cond}
+use mathlib.Core.List.{List, [], _∷_, _++_}
+use mathlib.Core.Path.{_≡_, refl, sym, _∙_}
+use lib.ListN.{replicate}
+use Rattle.numbers.specs.Numbers.{bigBytes}
+use Rattle.numbers.specs.Tables.{tableFrom}
+use Rattle.numbers.proofs.Numbers.{big-bytes}
+use Rattle.call_encoding.specs.declared.decode.Decoded.the-variants.{Known, Malformed}
+use Rattle.call_encoding.specs.declared.fields.Fields.{Fields}
+use Rattle.call_encoding.specs.Format.{fieldsOf, candidate, headerOf, encoded, fieldsAt, ownLength, sameBytes, decoded}
+use Rattle.call_encoding.specs.Meaning.{U32, Fits, EncodeDecode, DecodeEncode}
+use Rattle.call_encoding.proofs.Bytes.{same-refl, same-equal}
+use Rattle.call_encoding.proofs.Calls.{picked}
+
+whole : (v : ℕ) → U32 v → v % 256 ^ 4 ≡ v
+whole v h = omega arith
+
+module _ (f : Fields) (own : ℕ) where
+  -- the four bytes before the numbers, and the bytes of each number
+  first : List ℕ
+  first = f .operation ∷ f .width ∷ f .space ∷ f .register ∷ []
+
+  -- the fields and the length are read where they were put
+  pub fields-back : Fits f → fieldsAt (headerOf f own) ≡ f
+  unfolding first headerOf tableFrom
+  fields-back k =
+      let after-b : List ℕ = replicate 44 0 ++ bigBytes 4 own in
+      let after-a : List ℕ = bigBytes 4 (f .b) ++ after-b in
+      let h = big-bytes 4 (f .handle) first (bigBytes 4 (f .a) ++ after-a) ∙ whole (f .handle) (k .handle) in
+      let a = big-bytes 4 (f .a) (first ++ bigBytes 4 (f .handle)) after-a ∙ whole (f .a) (k .a) in
+      let b = big-bytes 4 (f .b) (first ++ (bigBytes 4 (f .handle) ++ bigBytes 4 (f .a))) after-b ∙ whole (f .b) (k .b) in
+      rw (h, a, b)
+
+  pub own-back : U32 own → ownLength (headerOf f own) ≡ own
+  unfolding first headerOf tableFrom
+  own-back k =
+      big-bytes 4 own (first ++ (bigBytes 4 (f .handle) ++ (bigBytes 4 (f .a) ++ (bigBytes 4 (f .b) ++ replicate 44 0)))) [] ∙ whole own k
+
+pub encode-decode : EncodeDecode
+unfolding decoded
+encode-decode c own h k =
+    rw (fields-back (fieldsOf c) own h, own-back (fieldsOf c) own k, picked c, same-refl (encoded c own))
+
+pub decode-encode : DecodeEncode
+unfolding decoded
+decode-encode l c own = by (sameBytes (encoded (candidate (fieldsAt l)) (ownLength l)) l) refl
+  where
+    by : (b : Bool) → sameBytes (encoded (candidate (fieldsAt l)) (ownLength l)) l ≡ b
+        → cond b (Known (candidate (fieldsAt l)) (ownLength l)) Malformed ≡ Known c own → l ≡ encoded c own
+    by true s e =
+        let k : candidate (fieldsAt l) ≡ c = cc in
+        let n : ownLength l ≡ own = cc in
+        rw (k, n) at (sym (same-equal (encoded (candidate (fieldsAt l)) (ownLength l)) l s))
+    by false s e = let z : _≡_ {A = ℕ} 0 1 = cc in absurd (omega arith)

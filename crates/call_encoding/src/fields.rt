@@ -1,0 +1,233 @@
+// The fields of a call's header: a row for each call, in the order of the operations' numbers.
+use board::address::BusAddress;
+use board::address::CpuAddress;
+use board::space::Space;
+use call::call::Access;
+use call::call::Call;
+use call::call::Query;
+use numbers::number::Width;
+use numbers::number::bytes;
+ghost use mathlib.Core.Path.{_≡_};
+ghost use Rattle.board.specs.Spaces.{spaceNumber};
+ghost use Rattle.call.specs.declared.call.Call.the-variants.{Ask};
+ghost use Rattle.call_encoding.specs.Format.{fields, fieldsOf, candidate, widthOf, spaceOf};
+
+// The fields of a header; what a call does not have is 0.
+pub struct Fields {
+    pub operation: u8,
+    pub width: u8,
+    pub space: u8,
+    pub register: u8,
+    pub handle: u32,
+    pub a: u32,
+    pub b: u32,
+}
+
+fn row(operation: u8, width: u8, space: u8, register: u8, handle: u32, a: u32, b: u32) -> Fields
+    ensures { λ r. ⌜ r ≡ fields operation width space register handle a b ⌝ }
+{
+    Fields {
+        operation: operation,
+        width: width,
+        space: space,
+        register: register,
+        handle: handle,
+        a: a,
+        b: b,
+    }
+}
+
+// The byte of a space.
+fn space_number(space: Space) -> u8
+    ensures { λ r. ⌜ r ≡ spaceNumber space ⌝ }
+{
+    match space {
+        Space::Memory => 0,
+        Space::Io => 1,
+    }
+}
+
+// The fields of a query.
+fn query_fields(query: Query) -> Fields
+    ensures { λ r. ⌜ r ≡ fieldsOf (Ask query) ⌝ }
+{
+    match query {
+        Query::FindPciDevice { id, index } => row(4, 0, 0, 0, 0, id, index),
+        Query::FindPciClasscode { class, index } => row(5, 0, 0, 0, 0, class, index),
+        Query::BusToCpu { handle, address } => row(12, 0, 0, 0, handle, address.0, 0),
+        Query::CpuToBus { handle, address } => row(13, 0, 0, 0, handle, address.0, 0),
+        Query::ListWindow { n } => row(14, 0, 0, 0, 0, n, 0),
+        Query::ListChain { line, place } => row(18, 0, 0, 0, 0, line, place),
+        Query::GetCardUsed { handle } => row(19, 0, 0, 0, handle, 0, 0),
+        Query::SpecialCycle { bus, message } => row(21, 0, 0, bus, 0, message, 0),
+        Query::GetRouting { handle } => row(22, 0, 0, 0, handle, 0, 0),
+        Query::SetInterrupt { handle, mode } => row(23, 0, 0, 0, handle, mode, 0),
+    }
+}
+
+// The fields of a call.
+pub fn fields_of(call: Call) -> Fields
+    ensures { λ r. ⌜ r ≡ fieldsOf call ⌝ }
+{
+    match call {
+        Call::Load => row(1, 0, 0, 0, 0, 0, 0),
+        Call::Reset => row(2, 0, 0, 0, 0, 0, 0),
+        Call::WriteImage => row(3, 0, 0, 0, 0, 0, 0),
+        Call::Config {
+            width,
+            handle,
+            register,
+            access,
+        } => {
+            let w = bytes(width);
+            match access {
+                Access::Read => row(6, w, 0, register, handle, 0, 0),
+                Access::FastRead => row(7, w, 0, register, handle, 0, 0),
+                Access::Write { value } => row(8, w, 0, register, handle, value, 0),
+            }
+        }
+        Call::Data {
+            space,
+            width,
+            handle,
+            address,
+            access,
+        } => {
+            let w = bytes(width);
+            let s = space_number(space);
+            match access {
+                Access::Read => row(9, w, s, 0, handle, address.0, 0),
+                Access::FastRead => row(10, w, s, 0, handle, address.0, 0),
+                Access::Write { value } => row(11, w, s, 0, handle, address.0, value),
+            }
+        }
+        Call::GetResource { handle } => row(15, 0, 0, 0, handle, 0, 0),
+        Call::HookInterrupt {
+            handle,
+            handler,
+            parameter,
+        } => row(16, 0, 0, 0, handle, handler, parameter),
+        Call::UnhookInterrupt { handle } => row(17, 0, 0, 0, handle, 0, 0),
+        Call::SetCardUsed {
+            handle,
+            status,
+            call_back,
+        } => row(20, 0, 0, 0, handle, status, call_back),
+        Call::Ask(query) => query_fields(query),
+    }
+}
+
+// The width of a byte; a byte that is no width is read as 1.
+fn width_of(n: u8) -> Width
+    ensures { λ r. ⌜ r ≡ widthOf n ⌝ }
+{
+    if n == 2 {
+        return Width::Word;
+    }
+    if n == 4 {
+        return Width::Long;
+    }
+    Width::Byte
+}
+
+// The space of a byte; a byte that is no space is read as 0.
+fn space_of(n: u8) -> Space
+    ensures { λ r. ⌜ r ≡ spaceOf n ⌝ }
+{
+    if n == 1 {
+        return Space::Io;
+    }
+    Space::Memory
+}
+
+// The only call that can have these fields, which may still be those of no call.
+pub fn call_of(f: Fields) -> Call
+    ensures { λ r. ⌜ r ≡ candidate f ⌝ }
+{
+    let operation = f.operation;
+    let width = width_of(f.width);
+    let space = space_of(f.space);
+    let register = f.register;
+    let handle = f.handle;
+    let a = f.a;
+    let b = f.b;
+    match operation {
+        1 => Call::Load,
+        2 => Call::Reset,
+        3 => Call::WriteImage,
+        4 => Call::Ask(Query::FindPciDevice { id: a, index: b }),
+        5 => Call::Ask(Query::FindPciClasscode { class: a, index: b }),
+        6 => Call::Config {
+            width: width,
+            handle: handle,
+            register: register,
+            access: Access::Read,
+        },
+        7 => Call::Config {
+            width: width,
+            handle: handle,
+            register: register,
+            access: Access::FastRead,
+        },
+        8 => Call::Config {
+            width: width,
+            handle: handle,
+            register: register,
+            access: Access::Write { value: a },
+        },
+        9 => Call::Data {
+            space: space,
+            width: width,
+            handle: handle,
+            address: BusAddress(a),
+            access: Access::Read,
+        },
+        10 => Call::Data {
+            space: space,
+            width: width,
+            handle: handle,
+            address: BusAddress(a),
+            access: Access::FastRead,
+        },
+        11 => Call::Data {
+            space: space,
+            width: width,
+            handle: handle,
+            address: BusAddress(a),
+            access: Access::Write { value: b },
+        },
+        12 => Call::Ask(Query::BusToCpu {
+            handle: handle,
+            address: BusAddress(a),
+        }),
+        13 => Call::Ask(Query::CpuToBus {
+            handle: handle,
+            address: CpuAddress(a),
+        }),
+        14 => Call::Ask(Query::ListWindow { n: a }),
+        15 => Call::GetResource { handle: handle },
+        16 => Call::HookInterrupt {
+            handle: handle,
+            handler: a,
+            parameter: b,
+        },
+        17 => Call::UnhookInterrupt { handle: handle },
+        18 => Call::Ask(Query::ListChain { line: a, place: b }),
+        19 => Call::Ask(Query::GetCardUsed { handle: handle }),
+        20 => Call::SetCardUsed {
+            handle: handle,
+            status: a,
+            call_back: b,
+        },
+        21 => Call::Ask(Query::SpecialCycle {
+            bus: register,
+            message: a,
+        }),
+        22 => Call::Ask(Query::GetRouting { handle: handle }),
+        23 => Call::Ask(Query::SetInterrupt {
+            handle: handle,
+            mode: a,
+        }),
+        _ => Call::Load,
+    }
+}

@@ -1,0 +1,105 @@
+// Writing configuration registers through their masks.
+use board::layout::BASE_0;
+use board::layout::COMMAND;
+use board::layout::Header;
+use board::layout::REGISTER_BYTES;
+use board::layout::Records;
+use board::layout::Registers;
+use board::layout::Windows;
+use board::layout::mask_byte;
+use board::layout::register_byte;
+use board::status::Status;
+use config_read::target::Target;
+use config_read::target::target_of;
+use numbers::number::Width;
+use numbers::number::bytes;
+use numbers::number::put_byte;
+use window_list::refresh::refresh;
+ghost use mathlib.Core.Path.{_≡_};
+ghost use Prim.Native.Nat.{_+_, _≤_};
+ghost use Rattle.board.specs.Layout.{registersEach};
+ghost use Rattle.numbers.specs.Numbers.{bytes};
+ghost use Rattle.config_write.specs.Write.{written, byteWritten, bytesWritten, movesWindows, wrote, writeConfig};
+
+// The register after the base registers.
+const BASES_END: u8 = 0x28;
+
+// A byte after a write at a register.
+fn written(register: u8, mask: u8, old: u8, new: u8) -> u8
+    ensures { λ r. ⌜ r ≡ written register mask old new ⌝ }
+{
+    (new & mask) | (old & !mask)
+}
+
+// Writes one byte through its mask.
+fn write_byte(records: &Records, registers: &mut Registers, function: u32, register: u8, new: u8)
+    ensures { λ _. ⌜ now (registers .exit) ≡ byteWritten (now (records .entry)) function register new (now (registers .entry)) ⌝ }
+{
+    let mask = mask_byte(records, function, register);
+    let old = register_byte(registers, function, register);
+    let at = REGISTER_BYTES * (function as usize) + register as usize;
+    put_byte(registers, at, written(register, mask, old, new));
+}
+
+// Writes the low bytes of a value from a register on, least byte first.
+fn write_bytes(
+    records: &Records,
+    registers: &mut Registers,
+    function: u32,
+    register: u8,
+    width: Width,
+    value: u32,
+)
+    requires { ⌜ register + bytes width ≤ registersEach ⌝ }
+    ensures { λ _. ⌜ now (registers .exit) ≡ bytesWritten (bytes width) (now (records .entry)) function register value (now (registers .entry)) ⌝ }
+{
+    let w = bytes(width);
+    let mut rest = value;
+    let mut i = 0;
+    while i < w {
+        write_byte(
+            records,
+            registers,
+            function,
+            register + i,
+            (rest % 256) as u8,
+        );
+        rest = rest / 256;
+        i += 1;
+    }
+}
+
+// Whether the registers of a width from a register on hold a byte that the window list depends on: the command byte or a base register's.
+fn moves_windows(register: u8, width: Width) -> bool
+    ensures { λ r. ⌜ r ≡ movesWindows (bytes width) register ⌝ }
+{
+    let end = register as u32 + bytes(width) as u32;
+    ((register <= COMMAND) & ((COMMAND as u32) < end))
+        | ((register < BASES_END) & ((BASE_0 as u32) < end))
+}
+
+// Writes a number of a width, its low bytes least first, and then works out the window list anew where it depends on a byte written.
+pub fn write_config(
+    header: &Header,
+    records: &Records,
+    registers: &mut Registers,
+    windows: &mut Windows,
+    width: Width,
+    handle: u32,
+    register: u8,
+    value: u32,
+) -> Status
+    ensures { λ r. ⌜ wrote r (now (registers .exit)) (now (windows .exit)) ≡ writeConfig (bytes width) (now (header .entry)) (now (records .entry)) (now (registers .entry)) (now (windows .entry)) handle register value ⌝ }
+{
+    match target_of(header, width, handle, register) {
+        Target::Function(function) => {
+            write_bytes(records, registers, function, register, width, value);
+            if moves_windows(register, width) {
+                refresh(header, records, registers, windows);
+                return Status::SUCCESSFUL;
+            }
+            Status::SUCCESSFUL
+        }
+        Target::Refused(status) => status,
+    }
+}

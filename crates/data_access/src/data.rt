@@ -1,0 +1,104 @@
+// Reading and writing cells.
+use crate::at_place::fast_read_at;
+use crate::at_place::read_at;
+use crate::at_place::write_at;
+use board::address::BusAddress;
+use board::layout::CellOffsets;
+use board::layout::Header;
+use board::layout::Records;
+use board::layout::Windows;
+use board::read::FastRead;
+use board::read::Read;
+use board::space::Space;
+use board::status::Status;
+use data_cells::place::data_place;
+use numbers::number::Width;
+ghost use mathlib.Core.Path.{_≡_};
+ghost use Rattle.numbers.specs.Numbers.{bytes};
+ghost use Rattle.board.specs.Spaces.{spaceNumber};
+ghost use Rattle.data_access.specs.Data.{readData, fastReadData, wrote, writeData};
+
+// Reads a number of a width in a window.
+pub fn read_data(
+    header: &Header,
+    records: &Records,
+    windows: &Windows,
+    offsets: &CellOffsets,
+    cells: &[u8],
+    space: Space,
+    width: Width,
+    handle: u32,
+    address: BusAddress,
+) -> Read
+    ensures { λ r. ⌜ r ≡ readData (bytes width) (now (header .entry)) (now (records .entry)) (now (windows .entry)) (now (offsets .entry)) (now (cells .entry)) (spaceNumber space) handle (address .0) ⌝ }
+{
+    let place = data_place(
+        header,
+        records,
+        windows,
+        offsets,
+        cells.len(),
+        space,
+        width,
+        handle,
+        address,
+    );
+    read_at(cells, width, place)
+}
+
+// The same, with a fault flag in place of the status.
+pub fn fast_read_data(
+    header: &Header,
+    records: &Records,
+    windows: &Windows,
+    offsets: &CellOffsets,
+    cells: &[u8],
+    space: Space,
+    width: Width,
+    handle: u32,
+    address: BusAddress,
+) -> FastRead
+    ensures { λ r. ⌜ r ≡ fastReadData (bytes width) (now (header .entry)) (now (records .entry)) (now (windows .entry)) (now (offsets .entry)) (now (cells .entry)) (spaceNumber space) handle (address .0) ⌝ }
+{
+    let place = data_place(
+        header,
+        records,
+        windows,
+        offsets,
+        cells.len(),
+        space,
+        width,
+        handle,
+        address,
+    );
+    fast_read_at(cells, width, place)
+}
+
+// Writes the low bytes of a value in a window, so that the same read gives them back.
+pub fn write_data(
+    header: &Header,
+    records: &Records,
+    windows: &Windows,
+    offsets: &CellOffsets,
+    cells: &mut [u8],
+    space: Space,
+    width: Width,
+    handle: u32,
+    address: BusAddress,
+    value: u32,
+) -> Status
+    ensures { λ r. ⌜ wrote r (now (cells .exit)) ≡ writeData (bytes width) (now (header .entry)) (now (records .entry)) (now (windows .entry)) (now (offsets .entry)) (now (cells .entry)) (spaceNumber space) handle (address .0) value ⌝ }
+{
+    let place = data_place(
+        header,
+        records,
+        windows,
+        offsets,
+        cells.len(),
+        space,
+        width,
+        handle,
+        address,
+    );
+    write_at(cells, width, value, place)
+}

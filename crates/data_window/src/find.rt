@@ -1,0 +1,148 @@
+// The step that finds the window for a handle.
+use crate::refusal::Refusal;
+use board::address::BusAddress;
+use board::handle::is_handle;
+use board::handle::place_of_handle;
+use board::layout::BASES;
+use board::layout::CellOffsets;
+use board::layout::Header;
+use board::layout::Records;
+use board::layout::WINDOWS;
+use board::layout::Windows;
+use board::layout::widths;
+use board::space::Space;
+use numbers::number::Width;
+use numbers::number::bytes_by_shift;
+use numbers::number::is_multiple_by_shift;
+use numbers::number::u32_at;
+use window::kept::base_of;
+use window::kept::handle_of;
+use window::kept::is_contested;
+use window::kept::is_end;
+use window::kept::is_io;
+use window::kept::length_of;
+use window::kept::start_of;
+ghost use mathlib.Core.Path.{_≡_};
+ghost use lib.Dec.{eqb};
+ghost use Prim.Native.Nat.{_-_, _≤_, _<_};
+ghost use Rattle.board.specs.Layout.{widths};
+ghost use Rattle.board.specs.Spaces.{spaceNumber};
+ghost use Rattle.numbers.specs.Numbers.{bytes};
+ghost use Rattle.window.specs.Kept.{unpack, unpacked};
+ghost use Rattle.window.specs.Window.{end};
+ghost use Rattle.data_window.specs.Find.{holds, offers, judged, inList, findIn};
+
+// The window that an access is for, with its distance from the window's start and the bytes that remain to its end; or the check that failed.
+pub enum Finding {
+    Found {
+        base: u8,
+        distance: u32,
+        remaining: u32,
+    },
+    Refused(Refusal),
+}
+
+fn is_in(w: u64, space: Space) -> bool
+    ensures { λ r. ⌜ r ≡ eqb (unpack w .space) (spaceNumber space) ⌝ }
+{
+    match space {
+        Space::Memory => !is_io(w),
+        Space::Io => is_io(w),
+    }
+}
+
+// Whether a kept number is a window of the function's own, in that space, that holds the address. The handle is compared first, as it tells most windows apart.
+fn holds(w: u64, space: Space, handle: u32, address: u32) -> bool
+    ensures { λ r. ⌜ r ≡ holds (spaceNumber space) handle address (unpack w) ⌝ }
+{
+    let start = start_of(w);
+    let end = start as u64 + length_of(w) as u64;
+    (handle_of(w) == handle)
+        & (is_in(w, space)
+            & ((base_of(w) < BASES as u32) & ((start <= address) & ((address as u64) < end))))
+}
+
+// Whether widths offer a width.
+fn offers(width: Width, widths: u8) -> bool
+    ensures { λ r. ⌜ r ≡ offers (bytes width) widths ⌝ }
+{
+    widths as u32 / bytes_by_shift(width) % 2 == 1
+}
+
+// What is found in a window that holds the address.
+fn judged(records: &Records, w: u64, width: Width, function: u32, address: u32) -> Finding
+    requires { ⌜ (unpack w .start ≤ address) × (address < end (unpack w)) ⌝ }
+    ensures { λ r. ⌜ r ≡ judged (λ b. offers (bytes width) (widths (now (records .entry)) function b)) address (unpack w) ⌝ }
+{
+    let base = base_of(w) as u8;
+    let contested = is_contested(w);
+    let offered = offers(width, widths(records, function, base));
+    if contested {
+        return Finding::Refused(Refusal::Contested);
+    }
+    if !offered {
+        return Finding::Refused(Refusal::WidthMissing);
+    }
+    let distance = address - start_of(w);
+    let remaining = length_of(w) - distance;
+    Finding::Found {
+        base: base,
+        distance: distance,
+        remaining: remaining,
+    }
+}
+
+// What is found in the kept list.
+fn in_list(
+    records: &Records,
+    list: &[u64],
+    space: Space,
+    width: Width,
+    handle: u32,
+    address: u32,
+) -> Finding
+    requires { ⌜ 0 < handle ⌝ }
+    ensures { λ r. ⌜ r ≡ inList (λ b. offers (bytes width) (widths (now (records .entry)) (handle - 1) b)) (spaceNumber space) handle address (unpacked (now (list .entry))) ⌝ }
+{
+    let mut j = 0;
+    while j < list.len() {
+        let w = list[j];
+        if is_end(w) {
+            return Finding::Refused(Refusal::Nothing);
+        }
+        if holds(w, space, handle, address) {
+            return judged(records, w, width, place_of_handle(handle), address);
+        }
+        j += 1;
+    }
+    Finding::Refused(Refusal::Nothing)
+}
+
+// The window of a handle that holds an address, with so many cells lent.
+pub fn find_window(
+    header: &Header,
+    records: &Records,
+    windows: &Windows,
+    offsets: &CellOffsets,
+    room: usize,
+    space: Space,
+    width: Width,
+    handle: u32,
+    address: BusAddress,
+) -> Finding
+    ensures { λ r. ⌜ r ≡ findIn (bytes width) (now (header .entry)) (now (records .entry)) (now (windows .entry)) (now (offsets .entry)) room (spaceNumber space) handle (address .0) ⌝ }
+{
+    let good = is_handle(header, handle);
+    let short = room < u32_at(offsets, WINDOWS) as usize;
+    let aligned = is_multiple_by_shift(address.0, width);
+    if !good {
+        return Finding::Refused(Refusal::BadHandle);
+    }
+    if short {
+        return Finding::Refused(Refusal::ShortCells);
+    }
+    if !aligned {
+        return Finding::Refused(Refusal::NotAligned);
+    }
+    in_list(records, windows, space, width, handle, address.0)
+}

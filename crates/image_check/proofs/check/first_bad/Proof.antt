@@ -1,0 +1,92 @@
+-- `first_bad`: the first bad record from the place reached on is the first of all.
+use Prim.Native.Nat.{suc, _+_, _-_, _*_, _≤_}
+use mathlib.Core.Bool.{true, false}
+use mathlib.Core.Path.{_≡_, sym, _∙_}
+use native.Mathlib.Omega.{arith}
+use native.Mathlib.Nat.{sub-zero}
+use borrow.Author.Tests.{not-true, not-false}
+use Rattle.image_record.specs.Record.{recordOk}
+use Rattle.image_layout.specs.Image.{imageRecord, recordAt}
+use Rattle.image_refusals.specs.Refusals.{firstBad}
+use borrow.Author.Needs.{needs}
+use Rattle.image_check.proofs.check.first_bad.Statement.{statement}
+use Rattle.image_check.proofs.check.first_bad.Tie as tie
+
+abbrev Inv-loop : tie.InvT-loop
+Inv-loop records count i₀ i = (i ≤ count) × (firstBad (λ j. recordOk (recordAt records j)) i (count - i) ≡ firstBad (λ j. recordOk (recordAt records j)) 0 count)
+
+abbrev μ-loop : tie.MeasureT-loop
+μ-loop records count i₀ i = count - i
+
+loop-holds : tie.Need-loop-holds Inv-loop μ-loop
+loop-holds c = (omega arith, rw sub-zero)
+
+mul-from : tie.Need-mul-from Inv-loop μ-loop
+mul-from c = search needs
+
+add-to : tie.Need-add-to Inv-loop μ-loop
+add-to c = search needs
+
+sub-record-ok : tie.Need-sub-record-ok Inv-loop μ-loop
+sub-record-ok c = search needs
+
+part-record-ok-start : tie.Need-part-record-ok-start Inv-loop μ-loop
+part-record-ok-start c = search needs
+
+part-record-ok-end : tie.Need-part-record-ok-end Inv-loop μ-loop
+part-record-ok-end c = search needs
+
+record-ok-requires : tie.Need-record-ok-requires Inv-loop μ-loop
+record-ok-requires c κs = search needs
+
+returns : tie.Need-returns Inv-loop μ-loop
+unfolding firstBad
+returns c =
+    let l = c .before .before .before .before .loop in
+    let a = c .before .before .before .before .before .before .args in
+    let left : a .count - l .i ≡ suc (a .count - (l .i + 1)) = omega arith in
+    let long : imageRecord * l .i + imageRecord - imageRecord * l .i ≡ imageRecord = omega arith in
+    let bad : recordOk (recordAt (a .records .now) (l .i)) ≡ false = rw long at (sym (c .before .record-ok .ensures) ∙ not-true _ (c .if1 .taken)) in
+    rw (left, bad) at (l .inv .1)
+
+add-i : tie.Need-add-i Inv-loop μ-loop
+add-i c = search needs
+
+loop-less : tie.Need-loop-less Inv-loop μ-loop
+loop-less c = search needs
+
+loop-again : tie.Need-loop-again Inv-loop μ-loop
+unfolding firstBad
+loop-again c =
+    let l = c .before .before .before .before .loop in
+    let a = c .before .before .before .before .before .before .args in
+    let left : a .count - l .i ≡ suc (a .count - (l .i + 1)) = omega arith in
+    let long : imageRecord * l .i + imageRecord - imageRecord * l .i ≡ imageRecord = omega arith in
+    let good : recordOk (recordAt (a .records .now) (l .i)) ≡ true = rw long at (sym (c .before .record-ok .ensures) ∙ not-false _ (c .if1 .left)) in
+    (omega arith, rw (left, good) at (l .inv .1))
+
+returns-2 : tie.Need-returns-2 Inv-loop μ-loop
+unfolding firstBad
+returns-2 c =
+    let l = c .before .loop in
+    let left : c .before .before .before .args .count - l .i ≡ 0 = omega arith in
+    rw left at (l .inv .1)
+
+pub first-bad-spec : {M : Type 1} → statement M
+first-bad-spec =
+    tie.close
+    (tie.spec
+    Inv-loop
+    μ-loop
+    loop-holds
+    mul-from
+    add-to
+    sub-record-ok
+    part-record-ok-start
+    part-record-ok-end
+    record-ok-requires
+    returns
+    add-i
+    loop-less
+    loop-again
+    returns-2)

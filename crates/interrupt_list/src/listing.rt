@@ -1,0 +1,65 @@
+// The listing of a line's chain.
+use board::layout::FUNCTIONS;
+use board::layout::Hooks;
+use board::layout::Records;
+use board::status::Status;
+use interrupt_array::hooks::LAST_LINE;
+use interrupt_array::hooks::handle_at;
+use interrupt_array::hooks::handler_at;
+use interrupt_array::hooks::is_on_line;
+use interrupt_array::hooks::parameter_at;
+ghost use mathlib.Core.Path.{_≡_};
+ghost use Rattle.interrupt_array.specs.Hooks.{hookAt, chainOf};
+ghost use Rattle.interrupt_list.specs.Listing.{found, listed, ListsChain};
+
+// The hook at a place of a chain, or the refusal.
+pub enum ChainListing {
+    Found {
+        handle: u32,
+        handler: u32,
+        parameter: u32,
+    },
+    Refused(Status),
+}
+
+// An entry as an answer.
+fn found(hooks: &Hooks, e: u32) -> ChainListing
+    ensures { λ r. ⌜ r ≡ found (hookAt (now (hooks .entry)) e) ⌝ }
+{
+    ChainListing::Found {
+        handle: handle_at(hooks, e),
+        handler: handler_at(hooks, e),
+        parameter: parameter_at(hooks, e),
+    }
+}
+
+// The hook with so many hooks of its line before it.
+fn listed(records: &Records, hooks: &Hooks, line: u32, place: u32) -> ChainListing
+    ensures { λ r. ⌜ r ≡ listed (chainOf (now (records .entry)) (now (hooks .entry)) line) place ⌝ }
+{
+    let most = FUNCTIONS as u32;
+    let mut before = place;
+    let mut e = 0;
+    while e < most {
+        if is_on_line(records, hooks, e, line) {
+            if before == 0 {
+                return found(hooks, e);
+            }
+            before -= 1;
+            e += 1;
+        } else {
+            e += 1;
+        }
+    }
+    ChainListing::Refused(Status::DEVICE_NOT_FOUND)
+}
+
+// The hook at a place of a line's chain, from 0.
+pub fn list_chain(records: &Records, hooks: &Hooks, line: u32, place: u32) -> ChainListing
+    ensures { λ r. ⌜ ListsChain (chainOf (now (records .entry)) (now (hooks .entry)) line) line place r ⌝ }
+{
+    if LAST_LINE < line {
+        return ChainListing::Refused(Status::GENERAL_ERROR);
+    }
+    listed(records, hooks, line, place)
+}
