@@ -6,13 +6,12 @@ use lib.IntN.{ℤ}
 use lib.ListN.{replicate}
 use Rattle.numbers.specs.Numbers.{bytes}
 use Rattle.board.specs.Statuses.{generalError}
-use Rattle.board.specs.declared.address.BusAddress.{BusAddress}
-use Rattle.board.specs.declared.address.CpuAddress.{CpuAddress}
+use Rattle.board.specs.Addresses.{bus, cpu}
 use Rattle.board.specs.declared.status.Status.{Status}
 use Rattle.window.specs.Window.{Window}
 use Rattle.window_listing.specs.Listing.{listedNumber, listedValues}
 use Rattle.config_read.specs.Read.{readConfig, fastReadConfig}
-use Rattle.config_write.specs.Write.{Wrote, wrote, writeConfig}
+use Rattle.config_write.specs.Write.{ConfigWritten, configWritten, writeConfig}
 use Rattle.board.specs.declared.read.Read.{Read}
 use Rattle.board.specs.declared.read.FastRead.{FastRead}
 use Rattle.address_convert.specs.declared.convert.ToBus.{ToBus}
@@ -27,11 +26,11 @@ use Rattle.image_refusals.specs.declared.verdict.Verdict.{Verdict}
 use Rattle.board.specs.declared.from_c.CWidth.{CWidth}
 use Rattle.board.specs.declared.from_c.CWidth.the-variants.{Known, Other}
 
-abbrev pub verdict : ℤ → ℕ → Verdict
-verdict number place = record { number = number; place = place }
+abbrev pub verdictNumbers : ℤ → ℕ → Verdict
+verdictNumbers number place = record { number = number; place = place }
 
-abbrev pub status : ℤ → Status
-status number = record { 0 = number }
+abbrev pub statusNumber : ℤ → Status
+statusNumber number = record { 0 = number }
 
 -- a number, and the values beside it
 pub record Shown : Type 0 where
@@ -45,12 +44,12 @@ shown number values = record { number = number; values = values }
 abbrev pub shownWindow : List Window → ℕ → Shown
 shownWindow l n = shown (listedNumber l n) (listedValues l n)
 
--- a place of a line's chain: handle, handler, parameter, then zeros; zeros where it is refused
+-- an index of a line's chain: handle, handler, parameter, then zeros; zeros where it is refused
 abbrev pub shownHook : List Hook → ℕ → ℕ → Shown
-shownHook chain line place = shown (chainNumber chain line place) (chainValues chain line place ++ replicate 3 0)
+shownHook chain line index = shown (chainNumber chain line index) (chainValues chain line index ++ replicate 3 0)
 
 abbrev pub cardUsed : ℤ → ℕ → ℕ → CardUsed
-cardUsed number used callBack = record { status = status number; used = used; «call_back» = callBack }
+cardUsed number used callBack = record { status = statusNumber number; used = used; «call_back» = callBack }
 
 -- a step through descriptors: 1, the six fields and the position after them, or 0, zeros and the position as it was
 pub record StepNumbers : Type 0 where
@@ -69,21 +68,21 @@ stepShown at (StepFound d next) = stepNumbers 1 (fieldsShown d) next
 stepShown at StepEnded = stepNumbers 0 (replicate 6 0) at
 
 abbrev pub readNumbers : ℤ → ℕ → Read
-readNumbers number value = record { status = status number; value = value }
+readNumbers number value = record { status = statusNumber number; value = value }
 
 -- another width than 1, 2 or 4 is refused with -8, and a fast read of it gives all ones
-abbrev pub askedRead : CWidth → List ℕ → List ℕ → ℕ → ℕ → Read
-askedRead (Known width) header registers handle register = readConfig (bytes width) header registers handle register
-askedRead Other header registers handle register = record { status = generalError; value = 0 }
+abbrev pub cReadConfig : CWidth → List ℕ → List ℕ → ℕ → ℕ → Read
+cReadConfig (Known width) header registers handle register = readConfig (bytes width) header registers handle register
+cReadConfig Other header registers handle register = record { status = generalError; value = 0 }
 
-abbrev pub askedFastRead : CWidth → List ℕ → List ℕ → ℕ → ℕ → FastRead
-askedFastRead (Known width) header registers handle register = fastReadConfig (bytes width) header registers handle register
-askedFastRead Other header registers handle register = record { value = 0xFFFFFFFF; fault = true }
+abbrev pub cFastReadConfig : CWidth → List ℕ → List ℕ → ℕ → ℕ → FastRead
+cFastReadConfig (Known width) header registers handle register = fastReadConfig (bytes width) header registers handle register
+cFastReadConfig Other header registers handle register = record { value = 0xFFFFFFFF; fault = true }
 
-abbrev pub askedWrite : CWidth → List ℕ → List ℕ → List ℕ → List ℕ → ℕ → ℕ → ℕ → Wrote
-askedWrite (Known width) header records registers windows handle register value =
+abbrev pub cWriteConfig : CWidth → List ℕ → List ℕ → List ℕ → List ℕ → ℕ → ℕ → ℕ → ConfigWritten
+cWriteConfig (Known width) header records registers windows handle register value =
     writeConfig (bytes width) header records registers windows handle register value
-askedWrite Other header records registers windows handle register value = wrote generalError registers windows
+cWriteConfig Other header records registers windows handle register value = configWritten generalError registers windows
 
 -- a fast read as two numbers: the fault flag is 1 where it is set
 pub record Fast : Type 0 where
@@ -97,14 +96,8 @@ abbrev pub fastShown : FastRead → Fast
 fastShown r = fastNumbers (r .value) (cond (r .fault) 1 0)
 
 -- conversions: a number and an address
-abbrev pub bus : ℕ → BusAddress
-bus a = record { 0 = a }
+abbrev pub toCpuNumbers : ℤ → ℕ → ToCpu
+toCpuNumbers number a = record { status = statusNumber number; address = cpu a }
 
-abbrev pub cpu : ℕ → CpuAddress
-cpu a = record { 0 = a }
-
-abbrev pub toCpu : ℤ → ℕ → ToCpu
-toCpu number a = record { status = status number; address = cpu a }
-
-abbrev pub toBus : ℤ → ℕ → ToBus
-toBus number a = record { status = status number; address = bus a }
+abbrev pub toBusNumbers : ℤ → ℕ → ToBus
+toBusNumbers number a = record { status = statusNumber number; address = bus a }

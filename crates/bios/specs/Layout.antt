@@ -5,8 +5,8 @@ use lib.ListN.{getD}
 use Rattle.board.specs.Layout.{functionsMax, windowsMax, recordSize, registersEach, headerSize, hookSize, markSize}
 
 -- header, records, registers, windows, cell offsets, hooks, used marks: numbers of 4 or 8 bytes, and bytes
-abbrev pub parts : List ℕ
-parts =
+abbrev pub partSizes : List ℕ
+partSizes =
     4 * headerSize
     ∷ functionsMax * recordSize
     ∷ functionsMax * registersEach
@@ -17,4 +17,4 @@ parts =
     ∷ []
 
 abbrev pub partBytes : ℕ → ℕ
-partBytes part = getD parts part 0
+partBytes part = getD partSizes part 0

@@ -15,9 +15,9 @@ ghost use mathlib.Core.Path.{_≡_};
 ghost use Rattle.board.specs.Handles.{functionCount};
 ghost use Rattle.board.specs.Layout.{registerByte};
 ghost use Rattle.search.specs.Search.{devices, classes, searchNumber};
-ghost use Rattle.config_write.specs.Write.{wrote};
+ghost use Rattle.config_write.specs.Write.{configWritten};
 ghost use Rattle.board.specs.FromC.{widthFromC};
-ghost use Rattle.bios.specs.Exports.{status, readNumbers, askedRead, fastNumbers, fastShown, askedFastRead, askedWrite};
+ghost use Rattle.bios.specs.Exports.{statusNumber, readNumbers, cReadConfig, fastNumbers, fastShown, cFastReadConfig, cWriteConfig};
 
 // The handle of the match with so many matches before it, or -4.
 #[no_mangle]
@@ -56,7 +56,7 @@ pub extern "C" fn bios_read_config(
     register: u8,
     value: &mut u32,
 ) -> i32
-    ensures { λ r. ⌜ readNumbers r (now (value .exit)) ≡ askedRead (widthFromC width) (now (header .entry)) (now (registers .entry)) handle register ⌝ }
+    ensures { λ r. ⌜ readNumbers r (now (value .exit)) ≡ cReadConfig (widthFromC width) (now (header .entry)) (now (registers .entry)) handle register ⌝ }
 {
     match width_from_c(width) {
         CWidth::Known(width) => {
@@ -81,7 +81,7 @@ pub extern "C" fn bios_fast_read_config(
     register: u8,
     fault: &mut u32,
 ) -> u32
-    ensures { λ r. ⌜ fastNumbers r (now (fault .exit)) ≡ fastShown (askedFastRead (widthFromC width) (now (header .entry)) (now (registers .entry)) handle register) ⌝ }
+    ensures { λ r. ⌜ fastNumbers r (now (fault .exit)) ≡ fastShown (cFastReadConfig (widthFromC width) (now (header .entry)) (now (registers .entry)) handle register) ⌝ }
 {
     match width_from_c(width) {
         CWidth::Known(width) => {
@@ -108,7 +108,7 @@ pub extern "C" fn bios_write_config(
     register: u8,
     value: u32,
 ) -> i32
-    ensures { λ r. ⌜ wrote (status r) (now (registers .exit)) (now (windows .exit)) ≡ askedWrite (widthFromC width) (now (header .entry)) (now (records .entry)) (now (registers .entry)) (now (windows .entry)) handle register value ⌝ }
+    ensures { λ r. ⌜ configWritten (statusNumber r) (now (registers .exit)) (now (windows .exit)) ≡ cWriteConfig (widthFromC width) (now (header .entry)) (now (records .entry)) (now (registers .entry)) (now (windows .entry)) handle register value ⌝ }
 {
     match width_from_c(width) {
         CWidth::Known(width) => {

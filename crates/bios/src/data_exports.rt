@@ -7,16 +7,17 @@ use board::layout::CellOffsets;
 use board::layout::Header;
 use board::layout::Records;
 use board::layout::Windows;
-use data_access::asked::asked_fast_read;
-use data_access::asked::asked_read;
-use data_access::asked::asked_write;
+use data_access::c_calls::c_fast_read_data;
+use data_access::c_calls::c_read_data;
+use data_access::c_calls::c_write_data;
 ghost use mathlib.Core.Path.{_≡_};
 ghost use Rattle.address_convert.specs.Convert.{busToCpu, cpuToBus};
-ghost use Rattle.data_access.specs.Asked.{askedData, askedFastData, askedDataWrite};
-ghost use Rattle.data_access.specs.Data.{wrote};
+ghost use Rattle.data_access.specs.CCalls.{cReadData, cFastReadData, cWriteData};
+ghost use Rattle.data_access.specs.Data.{dataWritten};
+ghost use Rattle.board.specs.Addresses.{bus, cpu};
 ghost use Rattle.board.specs.Spaces.{spaceNumber};
 ghost use Rattle.board.specs.FromC.{widthFromC, spaceFromC};
-ghost use Rattle.bios.specs.Exports.{status, bus, cpu, readNumbers, fastNumbers, fastShown, toCpu, toBus};
+ghost use Rattle.bios.specs.Exports.{statusNumber, readNumbers, fastNumbers, fastShown, toCpuNumbers, toBusNumbers};
 
 // Reads a number of a width in a window; the value, 0 where it is refused, goes to `value`.
 #[no_mangle]
@@ -32,9 +33,9 @@ pub extern "C" fn bios_read_data(
     address: u32,
     value: &mut u32,
 ) -> i32
-    ensures { λ r. ⌜ readNumbers r (now (value .exit)) ≡ askedData (widthFromC width) (now (header .entry)) (now (records .entry)) (now (windows .entry)) (now (offsets .entry)) (now (cells .entry)) (spaceNumber (spaceFromC io)) handle address ⌝ }
+    ensures { λ r. ⌜ readNumbers r (now (value .exit)) ≡ cReadData (widthFromC width) (now (header .entry)) (now (records .entry)) (now (windows .entry)) (now (offsets .entry)) (now (cells .entry)) (spaceNumber (spaceFromC io)) handle address ⌝ }
 {
-    let read = asked_read(
+    let read = c_read_data(
         header,
         records,
         windows,
@@ -63,9 +64,9 @@ pub extern "C" fn bios_fast_read_data(
     address: u32,
     fault: &mut u32,
 ) -> u32
-    ensures { λ r. ⌜ fastNumbers r (now (fault .exit)) ≡ fastShown (askedFastData (widthFromC width) (now (header .entry)) (now (records .entry)) (now (windows .entry)) (now (offsets .entry)) (now (cells .entry)) (spaceNumber (spaceFromC io)) handle address) ⌝ }
+    ensures { λ r. ⌜ fastNumbers r (now (fault .exit)) ≡ fastShown (cFastReadData (widthFromC width) (now (header .entry)) (now (records .entry)) (now (windows .entry)) (now (offsets .entry)) (now (cells .entry)) (spaceNumber (spaceFromC io)) handle address) ⌝ }
 {
-    let read = asked_fast_read(
+    let read = c_fast_read_data(
         header,
         records,
         windows,
@@ -94,9 +95,9 @@ pub extern "C" fn bios_write_data(
     address: u32,
     value: u32,
 ) -> i32
-    ensures { λ r. ⌜ wrote (status r) (now (cells .exit)) ≡ askedDataWrite (widthFromC width) (now (header .entry)) (now (records .entry)) (now (windows .entry)) (now (offsets .entry)) (now (cells .entry)) (spaceNumber (spaceFromC io)) handle address value ⌝ }
+    ensures { λ r. ⌜ dataWritten (statusNumber r) (now (cells .exit)) ≡ cWriteData (widthFromC width) (now (header .entry)) (now (records .entry)) (now (windows .entry)) (now (offsets .entry)) (now (cells .entry)) (spaceNumber (spaceFromC io)) handle address value ⌝ }
 {
-    let status = asked_write(
+    let status = c_write_data(
         header,
         records,
         windows,
@@ -120,7 +121,7 @@ pub extern "C" fn bios_bus_to_cpu(
     address: u32,
     cpu: &mut u32,
 ) -> i32
-    ensures { λ r. ⌜ toCpu r (now (cpu .exit)) ≡ busToCpu (now (header .entry)) (now (records .entry)) handle (bus address) ⌝ }
+    ensures { λ r. ⌜ toCpuNumbers r (now (cpu .exit)) ≡ busToCpu (now (header .entry)) (now (records .entry)) handle (bus address) ⌝ }
 {
     let to = bus_to_cpu(header, records, handle, BusAddress(address));
     *cpu = to.address.0;
@@ -136,7 +137,7 @@ pub extern "C" fn bios_cpu_to_bus(
     address: u32,
     bus: &mut u32,
 ) -> i32
-    ensures { λ r. ⌜ toBus r (now (bus .exit)) ≡ cpuToBus (now (header .entry)) (now (records .entry)) handle (cpu address) ⌝ }
+    ensures { λ r. ⌜ toBusNumbers r (now (bus .exit)) ≡ cpuToBus (now (header .entry)) (now (records .entry)) handle (cpu address) ⌝ }
 {
     let to = cpu_to_bus(header, records, handle, CpuAddress(address));
     *bus = to.address.0;

@@ -10,15 +10,15 @@ use card_used::used::set_card_used;
 use interrupt_hook::chain::hook_interrupt;
 use interrupt_hook::chain::unhook_interrupt;
 use interrupt_list::listing::list_chain;
-use unsupported::unsupported::get_routing;
-use unsupported::unsupported::set_interrupt;
-use unsupported::unsupported::special_cycle;
+use unsupported::get_routing;
+use unsupported::set_interrupt;
+use unsupported::special_cycle;
 ghost use mathlib.Core.Path.{_≡_};
 ghost use Rattle.interrupt_array.specs.Hooks.{chainOf};
-ghost use Rattle.interrupt_hook.specs.Chain.{changed, hookInterrupt, unhookInterrupt};
-ghost use Rattle.card_used.specs.Used.{marked, getCardUsed, setCardUsed};
+ghost use Rattle.interrupt_hook.specs.Chain.{hookOutcome, hookInterrupt, unhookInterrupt};
+ghost use Rattle.card_used.specs.Used.{markOutcome, getCardUsed, setCardUsed};
 ghost use Rattle.unsupported.specs.Unsupported.{specialCycle, getRouting, setInterrupt};
-ghost use Rattle.bios.specs.Exports.{status, shown, shownHook, cardUsed};
+ghost use Rattle.bios.specs.Exports.{statusNumber, shown, shownHook, cardUsed};
 
 // Puts a handler and its parameter last on the chain of a function's line.
 #[no_mangle]
@@ -30,7 +30,7 @@ pub extern "C" fn bios_hook_interrupt(
     handler: u32,
     parameter: u32,
 ) -> i32
-    ensures { λ r. ⌜ changed (status r) (now (hooks .exit)) ≡ hookInterrupt (now (header .entry)) (now (records .entry)) (now (hooks .entry)) handle handler parameter ⌝ }
+    ensures { λ r. ⌜ hookOutcome (statusNumber r) (now (hooks .exit)) ≡ hookInterrupt (now (header .entry)) (now (records .entry)) (now (hooks .entry)) handle handler parameter ⌝ }
 {
     hook_interrupt(header, records, hooks, handle, handler, parameter).number()
 }
@@ -38,23 +38,23 @@ pub extern "C" fn bios_hook_interrupt(
 // Takes a function's hook from its chain.
 #[no_mangle]
 pub extern "C" fn bios_unhook_interrupt(header: &Header, hooks: &mut Hooks, handle: u32) -> i32
-    ensures { λ r. ⌜ changed (status r) (now (hooks .exit)) ≡ unhookInterrupt (now (header .entry)) (now (hooks .entry)) handle ⌝ }
+    ensures { λ r. ⌜ hookOutcome (statusNumber r) (now (hooks .exit)) ≡ unhookInterrupt (now (header .entry)) (now (hooks .entry)) handle ⌝ }
 {
     unhook_interrupt(header, hooks, handle).number()
 }
 
-// The hook at a place of a line's chain, or a number; handle, handler and parameter go to the first three of `values`, zeros to the rest.
+// The hook at an index of a line's chain, or a number; handle, handler and parameter go to the first three of `values`, zeros to the rest.
 #[no_mangle]
 pub extern "C" fn bios_list_chain(
     records: &Records,
     hooks: &Hooks,
     line: u32,
-    place: u32,
+    index: u32,
     values: &mut Values,
 ) -> i32
-    ensures { λ r. ⌜ shown r (now (values .exit)) ≡ shownHook (chainOf (now (records .entry)) (now (hooks .entry)) line) line place ⌝ }
+    ensures { λ r. ⌜ shown r (now (values .exit)) ≡ shownHook (chainOf (now (records .entry)) (now (hooks .entry)) line) line index ⌝ }
 {
-    let a = of_chain(list_chain(records, hooks, line, place));
+    let a = of_chain(list_chain(records, hooks, line, index));
     let v = a.values;
     *values = v;
     a.number
@@ -85,28 +85,28 @@ pub extern "C" fn bios_set_card_used(
     mark: u32,
     call_back: u32,
 ) -> i32
-    ensures { λ r. ⌜ marked (status r) (now (used .exit)) ≡ setCardUsed (now (header .entry)) (now (used .entry)) handle mark «call_back» ⌝ }
+    ensures { λ r. ⌜ markOutcome (statusNumber r) (now (used .exit)) ≡ setCardUsed (now (header .entry)) (now (used .entry)) handle mark «call_back» ⌝ }
 {
     set_card_used(header, used, handle, mark, call_back).number()
 }
 
 #[no_mangle]
 pub extern "C" fn bios_special_cycle(bus: u8, message: u32) -> i32
-    ensures { λ r. ⌜ status r ≡ specialCycle bus message ⌝ }
+    ensures { λ r. ⌜ statusNumber r ≡ specialCycle bus message ⌝ }
 {
     special_cycle(bus, message).number()
 }
 
 #[no_mangle]
 pub extern "C" fn bios_get_routing(handle: u32) -> i32
-    ensures { λ r. ⌜ status r ≡ getRouting handle ⌝ }
+    ensures { λ r. ⌜ statusNumber r ≡ getRouting handle ⌝ }
 {
     get_routing(handle).number()
 }
 
 #[no_mangle]
 pub extern "C" fn bios_set_interrupt(handle: u32, mode: u32) -> i32
-    ensures { λ r. ⌜ status r ≡ setInterrupt handle mode ⌝ }
+    ensures { λ r. ⌜ statusNumber r ≡ setInterrupt handle mode ⌝ }
 {
     set_interrupt(handle, mode).number()
 }

@@ -3,19 +3,19 @@ use board::layout::Header;
 use board::layout::Records;
 use board::layout::Registers;
 use board::layout::Windows;
-use resource::resource::get_resource;
+use resource::get_resource;
 use resource_descriptor::descriptor::Descriptor;
 use resource_walk::step::Step;
 use resource_walk::step::descriptor_step;
 ghost use mathlib.Core.Path.{_≡_};
-ghost use Rattle.resource.specs.Resource.{gave, getResource};
+ghost use Rattle.resource.specs.Resource.{resourceOutcome, getResource};
 ghost use Rattle.resource_walk.specs.Walk.{stepAt};
-ghost use Rattle.bios.specs.Exports.{status, fieldsShown, stepShown, stepNumbers};
+ghost use Rattle.bios.specs.Exports.{statusNumber, fieldsShown, stepShown, stepNumbers};
 
 // A descriptor as numbers: next, flags, start, length, offset, dmaoffset.
-pub type Fields = [u32; 6];
+pub type DescriptorFields = [u32; 6];
 
-fn fields_of(d: Descriptor) -> Fields
+fn descriptor_fields(d: Descriptor) -> DescriptorFields
     ensures { λ r. ⌜ r ≡ fieldsShown d ⌝ }
 {
     [
@@ -38,7 +38,7 @@ pub extern "C" fn bios_get_resource(
     handle: u32,
     out: &mut [u8],
 ) -> i32
-    ensures { λ r. ⌜ gave (status r) (now (out .exit)) ≡ getResource (now (header .entry)) (now (records .entry)) (now (registers .entry)) (now (windows .entry)) handle (now (out .entry)) ⌝ }
+    ensures { λ r. ⌜ resourceOutcome (statusNumber r) (now (out .exit)) ≡ getResource (now (header .entry)) (now (records .entry)) (now (registers .entry)) (now (windows .entry)) handle (now (out .entry)) ⌝ }
 {
     get_resource(header, records, registers, windows, handle, out).number()
 }
@@ -48,7 +48,7 @@ pub extern "C" fn bios_get_resource(
 pub extern "C" fn bios_descriptor_step(
     bytes: &[u8],
     at: usize,
-    fields: &mut Fields,
+    fields: &mut DescriptorFields,
     following: &mut usize,
 ) -> u32
     ensures { λ r. ⌜ stepNumbers r (now (fields .exit)) (now (following .exit)) ≡ stepShown at (stepAt (now (bytes .entry)) at) ⌝ }
@@ -58,7 +58,7 @@ pub extern "C" fn bios_descriptor_step(
             descriptor,
             following: next,
         } => {
-            *fields = fields_of(descriptor);
+            *fields = descriptor_fields(descriptor);
             *following = next;
             1
         }

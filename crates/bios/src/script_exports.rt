@@ -11,7 +11,7 @@ ghost use mathlib.Core.Path.{_≡_};
 ghost use Rattle.board.specs.Parts.{parts};
 ghost use Rattle.script.specs.Script.{ran, runOf};
 
-// Performs the calls of a script from the board before the first load. Gives the place of the first malformed call, or the script's length.
+// Performs the calls of a script from the board before the first load. Gives the position of the first malformed call, or the script's length.
 #[no_mangle]
 pub extern "C" fn bios_run_script(
     script: &mut [u8],

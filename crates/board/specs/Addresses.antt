@@ -3,6 +3,13 @@ use Prim.Native.Nat.{ℕ, _+_, _-_, _%_, _^_}
 use Rattle.board.specs.declared.address.BusAddress.{BusAddress}
 use Rattle.board.specs.declared.address.CpuAddress.{CpuAddress}
 
+-- an address of a number
+abbrev pub bus : ℕ → BusAddress
+bus a = record { 0 = a }
+
+abbrev pub cpu : ℕ → CpuAddress
+cpu a = record { 0 = a }
+
 -- the CPU address is the PCI address plus the offset, modulo 2^32
 abbrev pub cpuAddress : ℕ → BusAddress → CpuAddress
 cpuAddress offset a = record { 0 = (a .0 + offset) % 2 ^ 32 }

@@ -1,4 +1,4 @@
--- Where things stand in the lent parts: document 01, "The modelled board" and "Board image". One name for each length and each place.
+-- Where things stand in the lent parts: document 01, "The modelled board" and "Board image". One name for each length and each position.
 use Prim.Native.Nat.{ℕ, _+_, _*_}
 use mathlib.Core.List.{List}
 use lib.ListN.{getD}

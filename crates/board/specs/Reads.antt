@@ -7,11 +7,11 @@ use Rattle.board.specs.declared.read.FastRead.{FastRead}
 use Rattle.board.specs.declared.status.Status.{Status}
 
 -- a refused read returns 0
-abbrev pub accepted : ℕ → Read
-accepted v = record { status = successful; value = v }
+abbrev pub acceptedRead : ℕ → Read
+acceptedRead v = record { status = successful; value = v }
 
-abbrev pub refused : Status → Read
-refused s = record { status = s; value = 0 }
+abbrev pub refusedRead : Status → Read
+refusedRead s = record { status = s; value = 0 }
 
 -- a refused fast read returns all ones of its width and a set fault flag
 abbrev pub acceptedFast : ℕ → FastRead

@@ -1,4 +1,4 @@
-// The parts of a board that the caller lends: one name for each length and each place, and a total reader for each kind of byte and number.
+// The parts of a board that the caller lends: one name for each length and each position, and a total reader for each kind of byte and number.
 use numbers::number::Width;
 use numbers::number::big_at;
 use numbers::number::byte_at;
@@ -143,7 +143,7 @@ pub fn register_byte(registers: &Registers, function: u32, register: u8) -> u8
     )
 }
 
-// The number at a place of a function's registers, least byte first.
+// The number at a register of a function, least byte first.
 fn number_of_registers(registers: &Registers, function: u32, at: u32, width: Width) -> u32
     ensures { λ r. ⌜ r ≡ little (bytes width) (registerByte (now (registers .entry)) function) at ⌝ }
 {

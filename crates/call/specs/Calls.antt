@@ -1,4 +1,4 @@
--- What is asked of a call's kind in more than one place.
+-- What is asked of a call's kind by more than one definition.
 use mathlib.Core.Bool.{Bool, true, false}
 use Rattle.call.specs.declared.call.Access.{Access}
 use Rattle.call.specs.declared.call.Access.the-variants.{Read, FastRead, Write}

@@ -7,7 +7,7 @@ use board::status::Status;
 use card_used::used::CardUsed;
 use image_refusals::verdict::Verdict;
 use interrupt_list::listing::ChainListing;
-use search::search::Search;
+use search::Search;
 use window_listing::listing::ListedWindow;
 use window_listing::listing::Listing;
 ghost use mathlib.Core.Path.{_≡_};
@@ -16,7 +16,7 @@ ghost use mathlib.Core.List.{[], _∷_};
 ghost use lib.IntN.{pos};
 ghost use lib.ListN.{replicate};
 ghost use Prim.Native.Nat.{_<_};
-ghost use Rattle.window_listing.specs.Listing.{numberOf, valuesOf, spaceNumber, startNumber, lengthNumber};
+ghost use Rattle.window_listing.specs.Listing.{listingNumber, listingValues, listedSpace, listedStart, listedLength};
 ghost use Rattle.search.specs.Search.{foundNumber};
 ghost use Rattle.interrupt_list.specs.Listing.{chainNumberOf, chainValuesOf};
 ghost use Rattle.call.specs.Answers.{answer, zeros, one, ofStatus, ofVerdict, ofSearch, ofRead, ofFastRead, ofToCpu, ofToBus, ofChain, ofUsed};
@@ -141,7 +141,7 @@ fn values(space: u64, start: u32, length: u32, handle: u32, base: u32, contested
 
 // The values of a window.
 fn values_of(window: ListedWindow, handle: u32, base: u32, contested: bool) -> Values
-    ensures { λ r. ⌜ r ≡ spaceNumber window ∷ startNumber window ∷ lengthNumber window ∷ handle ∷ base ∷ cond contested 1 0 ∷ [] ⌝ }
+    ensures { λ r. ⌜ r ≡ listedSpace window ∷ listedStart window ∷ listedLength window ∷ handle ∷ base ∷ cond contested 1 0 ∷ [] ⌝ }
 {
     match window {
         ListedWindow::Memory { start, length } => values(
@@ -158,7 +158,7 @@ fn values_of(window: ListedWindow, handle: u32, base: u32, contested: bool) -> V
 
 // The answer of a listing.
 pub fn of_listing(listing: Listing) -> Answer
-    ensures { λ r. ⌜ r ≡ answer (numberOf listing) (valuesOf listing) ⌝ }
+    ensures { λ r. ⌜ r ≡ answer (listingNumber listing) (listingValues listing) ⌝ }
 {
     match listing {
         Listing::Found {

@@ -17,7 +17,7 @@ pub enum Query {
     FindPciClasscode { class: u32, index: u32 },
     BusToCpu { handle: u32, address: BusAddress },
     CpuToBus { handle: u32, address: CpuAddress },
-    ListChain { line: u32, place: u32 },
+    ListChain { line: u32, index: u32 },
     GetCardUsed { handle: u32 },
     SpecialCycle { bus: u8, message: u32 },
     GetRouting { handle: u32 },

@@ -17,12 +17,12 @@ use mir.Val.{boolByte}
 use Rattle.call.proofs.Signed.{bool-number}
 use Rattle.call.specs.declared.answer.Answer.{Answer}
 use Rattle.call.specs.declared.call.Call.{Call}
-use Rattle.call_encoding.specs.Format.{valueBytes, answerBytes, fieldsOf, candidate, headerOf, encoded, fieldsAt, ownLength, sameBytes, decoded}
+use Rattle.call_encoding.specs.Format.{valueBytes, answerBytes, fieldsOf, candidate, callHeader, encoded, headerFieldsAt, ownLength, sameBytes, decoded}
 
 pub header-put : (f : Fields) (own : ℕ) {h a b all : List ℕ}
     → h ≡ sets (f .operation ∷ f .width ∷ f .space ∷ f .register ∷ replicate 60 0) 4 (bigBytes 4 (f .handle))
-    → a ≡ sets h 8 (bigBytes 4 (f .a)) → b ≡ sets a 12 (bigBytes 4 (f .b)) → all ≡ sets b 60 (bigBytes 4 own) → all ≡ headerOf f own
-unfolding headerOf tableFrom
+    → a ≡ sets h 8 (bigBytes 4 (f .a)) → b ≡ sets a 12 (bigBytes 4 (f .b)) → all ≡ sets b 60 (bigBytes 4 own) → all ≡ callHeader f own
+unfolding callHeader tableFrom
 header-put f own h a b all = rw (all, b, a, h)
 
 -- the two halves of a value
@@ -71,9 +71,9 @@ same-not l m n = by (sameBytes l m) refl
     by false e = e
 
 -- a header against that of the only call that it can be
-module _ (l : List ℕ) (f g : Fields) (again : List ℕ) {call : Call} {own : ℕ} (at : f ≡ fieldsAt l) (c : call ≡ candidate f) (o : own ≡ ownLength l)
-    (of : g ≡ fieldsOf call) (e : again ≡ headerOf g own) where
-  expected : again ≡ encoded (candidate (fieldsAt l)) (ownLength l)
+module _ (l : List ℕ) (f g : Fields) (again : List ℕ) {call : Call} {own : ℕ} (at : f ≡ headerFieldsAt l) (c : call ≡ candidate f) (o : own ≡ ownLength l)
+    (of : g ≡ fieldsOf call) (e : again ≡ callHeader g own) where
+  expected : again ≡ encoded (candidate (headerFieldsAt l)) (ownLength l)
   expected = rw (← at, ← c, ← o, ← of) e
 
   pub decoded-known : again ≡ l → Known call own ≡ decoded l
@@ -82,4 +82,4 @@ module _ (l : List ℕ) (f g : Fields) (again : List ℕ) {call : Call} {own : �
 
   pub decoded-not : (again ≡ l → ⊥) → Malformed ≡ decoded l
   unfolding decoded
-  decoded-not n = rw (same-not (encoded (candidate (fieldsAt l)) (ownLength l)) l (λ d. n (expected ∙ d)))
+  decoded-not n = rw (same-not (encoded (candidate (headerFieldsAt l)) (ownLength l)) l (λ d. n (expected ∙ d)))

@@ -17,7 +17,7 @@ use Rattle.numbers.specs.declared.number.Width.the-variants.{Byte, Word, Long}
 use Rattle.board.specs.Spaces.{spaceNumber}
 use Rattle.board.specs.declared.space.Space.{Space}
 use Rattle.board.specs.declared.space.Space.the-variants.{Memory, Io}
-use Rattle.call_encoding.specs.Format.{fieldsOf, widthOf, spaceOf, calls, candidate}
+use Rattle.call_encoding.specs.Format.{fieldsOf, widthOfByte, spaceOfByte, candidates, candidate}
 
 -- none of the numbers 1 to n
 abbrev pub NoneOf : ℕ → ℕ → Type 0
@@ -29,20 +29,20 @@ none-small k zero r h = omega arith
 none-small k (suc n) r h = none-small k n (r .0) (omega arith)
 
 -- an operation that the table does not have is read as its first row
-pub unknown : (f : Fields) → NoneOf (f .operation) (length (calls f)) → Load ≡ candidate f
+pub unknown : (f : Fields) → NoneOf (f .operation) (length (candidates f)) → Load ≡ candidate f
 unfolding candidate
-unknown f r = by (ltb (length (calls f)) (f .operation)) refl
+unknown f r = by (ltb (length (candidates f)) (f .operation)) refl
   where
-    by : (b : Bool) → ltb (length (calls f)) (f .operation) ≡ b → Load ≡ getD (calls f) (f .operation - 1) Load
-    by true e = let h = ltb-true (length (calls f)) (f .operation) e in sym (List·getD-eq-default (calls f) Load {n = f .operation - 1} (omega arith))
-    by false e = rw (none-small (f .operation) (length (calls f)) r (ltb-false (length (calls f)) (f .operation) e))
+    by : (b : Bool) → ltb (length (candidates f)) (f .operation) ≡ b → Load ≡ getD (candidates f) (f .operation - 1) Load
+    by true e = let h = ltb-true (length (candidates f)) (f .operation) e in sym (List·getD-eq-default (candidates f) Load {n = f .operation - 1} (omega arith))
+    by false e = rw (none-small (f .operation) (length (candidates f)) r (ltb-false (length (candidates f)) (f .operation) e))
 
-width-back : (w : Width) → widthOf (bytes w) ≡ w
+width-back : (w : Width) → widthOfByte (bytes w) ≡ w
 width-back Byte = refl
 width-back Word = refl
 width-back Long = refl
 
-space-back : (s : Space) → spaceOf (spaceNumber s) ≡ s
+space-back : (s : Space) → spaceOfByte (spaceNumber s) ≡ s
 space-back Memory = refl
 space-back Io = refl
 
@@ -66,7 +66,7 @@ picked (Ask (ListWindow n)) = refl
 picked (GetResource handle) = refl
 picked (HookInterrupt handle handler parameter) = refl
 picked (UnhookInterrupt handle) = refl
-picked (Ask (ListChain line place)) = refl
+picked (Ask (ListChain line index)) = refl
 picked (Ask (GetCardUsed handle)) = refl
 picked (SetCardUsed handle status callBack) = refl
 picked (Ask (SpecialCycle bus message)) = refl

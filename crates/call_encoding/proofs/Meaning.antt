@@ -10,7 +10,7 @@ use Rattle.numbers.specs.Tables.{tableFrom}
 use Rattle.numbers.proofs.Numbers.{big-bytes}
 use Rattle.call_encoding.specs.declared.decode.Decoded.the-variants.{Known, Malformed}
 use Rattle.call_encoding.specs.declared.fields.Fields.{Fields}
-use Rattle.call_encoding.specs.Format.{fieldsOf, candidate, headerOf, encoded, fieldsAt, ownLength, sameBytes, decoded}
+use Rattle.call_encoding.specs.Format.{fieldsOf, candidate, callHeader, encoded, headerFieldsAt, ownLength, sameBytes, decoded}
 use Rattle.call_encoding.specs.Meaning.{U32, Fits, EncodeDecode, DecodeEncode}
 use Rattle.call_encoding.proofs.Bytes.{same-refl, same-equal}
 use Rattle.call_encoding.proofs.Calls.{picked}
@@ -24,8 +24,8 @@ module _ (f : Fields) (own : ℕ) where
   first = f .operation ∷ f .width ∷ f .space ∷ f .register ∷ []
 
   -- the fields and the length are read where they were put
-  pub fields-back : Fits f → fieldsAt (headerOf f own) ≡ f
-  unfolding first headerOf tableFrom
+  pub fields-back : Fits f → headerFieldsAt (callHeader f own) ≡ f
+  unfolding first callHeader tableFrom
   fields-back k =
       let after-b : List ℕ = replicate 44 0 ++ bigBytes 4 own in
       let after-a : List ℕ = bigBytes 4 (f .b) ++ after-b in
@@ -34,8 +34,8 @@ module _ (f : Fields) (own : ℕ) where
       let b = big-bytes 4 (f .b) (first ++ (bigBytes 4 (f .handle) ++ bigBytes 4 (f .a))) after-b ∙ whole (f .b) (k .b) in
       rw (h, a, b)
 
-  pub own-back : U32 own → ownLength (headerOf f own) ≡ own
-  unfolding first headerOf tableFrom
+  pub own-back : U32 own → ownLength (callHeader f own) ≡ own
+  unfolding first callHeader tableFrom
   own-back k =
       big-bytes 4 own (first ++ (bigBytes 4 (f .handle) ++ (bigBytes 4 (f .a) ++ (bigBytes 4 (f .b) ++ replicate 44 0)))) [] ∙ whole own k
 
@@ -46,12 +46,12 @@ encode-decode c own h k =
 
 pub decode-encode : DecodeEncode
 unfolding decoded
-decode-encode l c own = by (sameBytes (encoded (candidate (fieldsAt l)) (ownLength l)) l) refl
+decode-encode l c own = by (sameBytes (encoded (candidate (headerFieldsAt l)) (ownLength l)) l) refl
   where
-    by : (b : Bool) → sameBytes (encoded (candidate (fieldsAt l)) (ownLength l)) l ≡ b
-        → cond b (Known (candidate (fieldsAt l)) (ownLength l)) Malformed ≡ Known c own → l ≡ encoded c own
+    by : (b : Bool) → sameBytes (encoded (candidate (headerFieldsAt l)) (ownLength l)) l ≡ b
+        → cond b (Known (candidate (headerFieldsAt l)) (ownLength l)) Malformed ≡ Known c own → l ≡ encoded c own
     by true s e =
-        let k : candidate (fieldsAt l) ≡ c = cc in
+        let k : candidate (headerFieldsAt l) ≡ c = cc in
         let n : ownLength l ≡ own = cc in
-        rw (k, n) at (sym (same-equal (encoded (candidate (fieldsAt l)) (ownLength l)) l s))
+        rw (k, n) at (sym (same-equal (encoded (candidate (headerFieldsAt l)) (ownLength l)) l s))
     by false s e = let z : _≡_ {A = ℕ} 0 1 = cc in absurd (omega arith)

@@ -5,8 +5,7 @@ use mathlib.Core.List.{List, [], _∷_, _++_}
 use lib.Dec.{eqb}
 use lib.ListN.{getD, replicate}
 use Rattle.numbers.specs.Numbers.{byteAt, bytes, big, bigBytes, bits}
-use Rattle.board.specs.declared.address.BusAddress.{BusAddress}
-use Rattle.board.specs.declared.address.CpuAddress.{CpuAddress}
+use Rattle.board.specs.Addresses.{bus, cpu}
 use Rattle.numbers.specs.declared.number.Width.{Width}
 use Rattle.numbers.specs.declared.number.Width.the-variants.{Byte, Word, Long}
 use Rattle.board.specs.Spaces.{spaceNumber}
@@ -44,7 +43,7 @@ fieldsOf (Ask (ListWindow n)) = fields 14 0 0 0 0 n 0
 fieldsOf (GetResource handle) = fields 15 0 0 0 handle 0 0
 fieldsOf (HookInterrupt handle handler parameter) = fields 16 0 0 0 handle handler parameter
 fieldsOf (UnhookInterrupt handle) = fields 17 0 0 0 handle 0 0
-fieldsOf (Ask (ListChain line place)) = fields 18 0 0 0 0 line place
+fieldsOf (Ask (ListChain line index)) = fields 18 0 0 0 0 line index
 fieldsOf (Ask (GetCardUsed handle)) = fields 19 0 0 0 handle 0 0
 fieldsOf (SetCardUsed handle status callBack) = fields 20 0 0 0 handle status callBack
 fieldsOf (Ask (SpecialCycle onBus message)) = fields 21 0 0 onBus 0 message 0
@@ -52,23 +51,17 @@ fieldsOf (Ask (GetRouting handle)) = fields 22 0 0 0 handle 0 0
 fieldsOf (Ask (SetInterrupt handle mode)) = fields 23 0 0 0 handle mode 0
 
 -- a width and a space of a byte, whatever it is
-abbrev pub widthOf : ℕ → Width
-widthOf n = cond (eqb n 2) Word (cond (eqb n 4) Long Byte)
+abbrev pub widthOfByte : ℕ → Width
+widthOfByte n = cond (eqb n 2) Word (cond (eqb n 4) Long Byte)
 
-abbrev pub spaceOf : ℕ → Space
-spaceOf n = cond (eqb n 1) Io Memory
-
-abbrev pub bus : ℕ → BusAddress
-bus a = record { 0 = a }
-
-abbrev pub cpu : ℕ → CpuAddress
-cpu a = record { 0 = a }
+abbrev pub spaceOfByte : ℕ → Space
+spaceOfByte n = cond (eqb n 1) Io Memory
 
 -- the calls that these fields would make, by operation from 1
-abbrev pub calls : Fields → List Call
-calls f =
-    let w = widthOf (f .width) in
-    let s = spaceOf (f .space) in
+abbrev pub candidates : Fields → List Call
+candidates f =
+    let w = widthOfByte (f .width) in
+    let s = spaceOfByte (f .space) in
     let h = f .handle in
     let r = f .register in
     Load
@@ -98,23 +91,23 @@ calls f =
 
 -- the only call that can have these fields
 unfoldable pub candidate : Fields → Call
-candidate f = getD (calls f) (f .operation - 1) Load
+candidate f = getD (candidates f) (f .operation - 1) Load
 
 -- a header: the fields, zeros, and the length of the call's own buffer
-abbrev pub headerSize : ℕ
-headerSize = 64
+abbrev pub callHeaderSize : ℕ
+callHeaderSize = 64
 
-unfoldable pub headerOf : Fields → ℕ → List ℕ
-headerOf f own =
+unfoldable pub callHeader : Fields → ℕ → List ℕ
+callHeader f own =
     f .operation ∷ f .width ∷ f .space ∷ f .register
     ∷ bigBytes 4 (f .handle) ++ (bigBytes 4 (f .a) ++ (bigBytes 4 (f .b) ++ (replicate 44 0 ++ bigBytes 4 own)))
 
 abbrev pub encoded : Call → ℕ → List ℕ
-encoded c own = headerOf (fieldsOf c) own
+encoded c own = callHeader (fieldsOf c) own
 
--- what stands at the places of the fields and of that length
-abbrev pub fieldsAt : List ℕ → Fields
-fieldsAt l =
+-- what stands at the positions of the fields and of that length
+abbrev pub headerFieldsAt : List ℕ → Fields
+headerFieldsAt l =
     fields (byteAt l 0) (byteAt l 1) (byteAt l 2) (byteAt l 3) (big 4 (byteAt l) 4) (big 4 (byteAt l) 8) (big 4 (byteAt l) 12)
 
 abbrev pub ownLength : List ℕ → ℕ
@@ -129,7 +122,7 @@ sameBytes (x ∷ l) (y ∷ m) = eqb x y && sameBytes l m
 -- a header is a call's if it is the encoding of the only call that it can be, byte for byte
 unfoldable pub decoded : List ℕ → Decoded
 decoded l =
-    let c = candidate (fieldsAt l) in
+    let c = candidate (headerFieldsAt l) in
     cond (sameBytes (encoded c (ownLength l)) l) (Known c (ownLength l)) Malformed
 
 -- the low 8 bytes of a value

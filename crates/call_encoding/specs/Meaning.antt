@@ -17,12 +17,12 @@ pub record Fits (f : Fields) : Type 0 where
   pub b : U32 (f .b)
 
 -- the types can hold this call
-abbrev pub Holds : Call → Type 0
-Holds c = Fits (fieldsOf c)
+abbrev pub TypesHold : Call → Type 0
+TypesHold c = Fits (fieldsOf c)
 
 -- ENCODE THEN DECODE is the identity, for every call that the types can hold and every length of its own buffer
 abbrev pub EncodeDecode : Type 0
-EncodeDecode = (c : Call) (own : ℕ) → Holds c → U32 own → decoded (encoded c own) ≡ Known c own
+EncodeDecode = (c : Call) (own : ℕ) → TypesHold c → U32 own → decoded (encoded c own) ≡ Known c own
 
 -- DECODE THEN ENCODE is the identity: bytes that are read as a call are that call's header, so no two headers say the same
 abbrev pub DecodeEncode : Type 0

@@ -1,16 +1,16 @@
 // The call that a header says.
 use crate::encode::OWN_LENGTH;
-use crate::encode::header_of;
+use crate::encode::call_header;
 use crate::fields::Fields;
 use crate::fields::call_of;
 use crate::fields::fields_of;
-use call::call::Call;
+use call::Call;
 use check::same;
 use numbers::number::Width;
 use numbers::number::big_at;
 use numbers::number::byte_at;
 ghost use mathlib.Core.Path.{_≡_};
-ghost use Rattle.call_encoding.specs.Format.{fieldsAt, decoded};
+ghost use Rattle.call_encoding.specs.Format.{headerFieldsAt, decoded};
 
 // A call and the length of its own buffer; or bytes that are no call's header.
 pub enum Decoded {
@@ -18,9 +18,9 @@ pub enum Decoded {
     Malformed,
 }
 
-// The bytes at the places of the fields.
-fn fields_at(header: &[u8]) -> Fields
-    ensures { λ r. ⌜ r ≡ fieldsAt (now (header .entry)) ⌝ }
+// The bytes at the positions of the fields.
+fn header_fields_at(header: &[u8]) -> Fields
+    ensures { λ r. ⌜ r ≡ headerFieldsAt (now (header .entry)) ⌝ }
 {
     Fields {
         operation: byte_at(header, 0),
@@ -37,11 +37,11 @@ fn fields_at(header: &[u8]) -> Fields
 pub fn decode(header: &[u8]) -> Decoded
     ensures { λ r. ⌜ r ≡ decoded (now (header .entry)) ⌝ }
 {
-    let found = fields_at(header);
+    let found = header_fields_at(header);
     let own = big_at(header, OWN_LENGTH, Width::Long);
     let call = call_of(found);
     let said = fields_of(call);
-    let again = header_of(said, own);
+    let again = call_header(said, own);
     if same(&again, header) {
         return Decoded::Known {
             call: call,

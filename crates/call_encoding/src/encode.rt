@@ -1,11 +1,11 @@
 // The header of a call.
 use crate::fields::Fields;
 use crate::fields::fields_of;
-use call::call::Call;
+use call::Call;
 use numbers::number::Width;
 use numbers::number::put_big;
 ghost use mathlib.Core.Path.{_≡_};
-ghost use Rattle.call_encoding.specs.Format.{headerOf, encoded};
+ghost use Rattle.call_encoding.specs.Format.{callHeader, encoded};
 
 // Bytes of a header, and where the length of the call's own buffer stands in it.
 pub const CALL_HEADER: usize = 64;
@@ -14,9 +14,9 @@ pub const OWN_LENGTH: usize = 60;
 
 pub type CallHeader = [u8; CALL_HEADER];
 
-// The header with these fields: zeros at all other places.
-pub(crate) fn header_of(f: Fields, own: u32) -> CallHeader
-    ensures { λ r. ⌜ r ≡ headerOf f own ⌝ }
+// The header with these fields: zeros everywhere else.
+pub(crate) fn call_header(f: Fields, own: u32) -> CallHeader
+    ensures { λ r. ⌜ r ≡ callHeader f own ⌝ }
 {
     let mut out = [0u8; CALL_HEADER];
     out[0] = f.operation;
@@ -34,5 +34,5 @@ pub(crate) fn header_of(f: Fields, own: u32) -> CallHeader
 pub fn encode(call: Call, own: u32, out: &mut CallHeader)
     ensures { λ _. ⌜ now (out .exit) ≡ encoded call own ⌝ }
 {
-    *out = header_of(fields_of(call), own);
+    *out = call_header(fields_of(call), own);
 }

@@ -2,15 +2,15 @@
 use board::address::BusAddress;
 use board::address::CpuAddress;
 use board::space::Space;
-use call::call::Access;
-use call::call::Call;
-use call::call::Query;
+use call::Access;
+use call::Call;
+use call::Query;
 use numbers::number::Width;
 use numbers::number::bytes;
 ghost use mathlib.Core.Path.{_≡_};
 ghost use Rattle.board.specs.Spaces.{spaceNumber};
 ghost use Rattle.call.specs.declared.call.Call.the-variants.{Ask};
-ghost use Rattle.call_encoding.specs.Format.{fields, fieldsOf, candidate, widthOf, spaceOf};
+ghost use Rattle.call_encoding.specs.Format.{fields, fieldsOf, candidate, widthOfByte, spaceOfByte};
 
 // The fields of a header; what a call does not have is 0.
 pub struct Fields {
@@ -57,7 +57,7 @@ fn query_fields(query: Query) -> Fields
         Query::BusToCpu { handle, address } => row(12, 0, 0, 0, handle, address.0, 0),
         Query::CpuToBus { handle, address } => row(13, 0, 0, 0, handle, address.0, 0),
         Query::ListWindow { n } => row(14, 0, 0, 0, 0, n, 0),
-        Query::ListChain { line, place } => row(18, 0, 0, 0, 0, line, place),
+        Query::ListChain { line, index } => row(18, 0, 0, 0, 0, line, index),
         Query::GetCardUsed { handle } => row(19, 0, 0, 0, handle, 0, 0),
         Query::SpecialCycle { bus, message } => row(21, 0, 0, bus, 0, message, 0),
         Query::GetRouting { handle } => row(22, 0, 0, 0, handle, 0, 0),
@@ -118,8 +118,8 @@ pub fn fields_of(call: Call) -> Fields
 }
 
 // The width of a byte; a byte that is no width is read as 1.
-fn width_of(n: u8) -> Width
-    ensures { λ r. ⌜ r ≡ widthOf n ⌝ }
+fn width_of_byte(n: u8) -> Width
+    ensures { λ r. ⌜ r ≡ widthOfByte n ⌝ }
 {
     if n == 2 {
         return Width::Word;
@@ -131,8 +131,8 @@ fn width_of(n: u8) -> Width
 }
 
 // The space of a byte; a byte that is no space is read as 0.
-fn space_of(n: u8) -> Space
-    ensures { λ r. ⌜ r ≡ spaceOf n ⌝ }
+fn space_of_byte(n: u8) -> Space
+    ensures { λ r. ⌜ r ≡ spaceOfByte n ⌝ }
 {
     if n == 1 {
         return Space::Io;
@@ -145,8 +145,8 @@ pub fn call_of(f: Fields) -> Call
     ensures { λ r. ⌜ r ≡ candidate f ⌝ }
 {
     let operation = f.operation;
-    let width = width_of(f.width);
-    let space = space_of(f.space);
+    let width = width_of_byte(f.width);
+    let space = space_of_byte(f.space);
     let register = f.register;
     let handle = f.handle;
     let a = f.a;
@@ -212,7 +212,7 @@ pub fn call_of(f: Fields) -> Call
             parameter: b,
         },
         17 => Call::UnhookInterrupt { handle: handle },
-        18 => Call::Ask(Query::ListChain { line: a, place: b }),
+        18 => Call::Ask(Query::ListChain { line: a, index: b }),
         19 => Call::Ask(Query::GetCardUsed { handle: handle }),
         20 => Call::SetCardUsed {
             handle: handle,

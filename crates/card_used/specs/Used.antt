@@ -52,13 +52,13 @@ abbrev pub setChecks : {A : Type 0} → Bool → ℕ → A → (Status → A) �
 setChecks good status accepted refused = cond good (cond (leb status 3) accepted (refused generalError)) (refused badHandle)
 
 -- a status, and the array that is left
-pub record Marked : Type 0 where
+pub record MarkOutcome : Type 0 where
   pub status : Status
   pub used : List ℕ
 
-abbrev pub marked : Status → List ℕ → Marked
-marked status used = record { status = status; used = used }
+abbrev pub markOutcome : Status → List ℕ → MarkOutcome
+markOutcome status used = record { status = status; used = used }
 
-abbrev pub setCardUsed : List ℕ → List ℕ → ℕ → ℕ → ℕ → Marked
+abbrev pub setCardUsed : List ℕ → List ℕ → ℕ → ℕ → ℕ → MarkOutcome
 setCardUsed header used handle status callBack =
-    setChecks (isHandle header handle) status (marked successful (markPut used (handle - 1) (newMark status callBack))) (λ s. marked s used)
+    setChecks (isHandle header handle) status (markOutcome successful (markPut used (handle - 1) (newMark status callBack))) (λ s. markOutcome s used)

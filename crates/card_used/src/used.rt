@@ -10,7 +10,7 @@ ghost use mathlib.Core.Path.{_≡_};
 ghost use Prim.Native.Nat.{_+_, _*_, _<_};
 ghost use lib.ListN.{length};
 ghost use Rattle.board.specs.Layout.{markSize};
-ghost use Rattle.card_used.specs.Used.{mark, callBackKept, markPut, getCardUsed, marked, setCardUsed};
+ghost use Rattle.card_used.specs.Used.{mark, callBackKept, markPut, getCardUsed, markOutcome, setCardUsed};
 
 // What a mark says; zeros where the call is refused.
 pub struct CardUsed {
@@ -72,7 +72,7 @@ pub fn set_card_used(
     status: u32,
     call_back: u32,
 ) -> Status
-    ensures { λ r. ⌜ marked r (now (used .exit)) ≡ setCardUsed (now (header .entry)) (now (used .entry)) handle status «call_back» ⌝ }
+    ensures { λ r. ⌜ markOutcome r (now (used .exit)) ≡ setCardUsed (now (header .entry)) (now (used .entry)) handle status «call_back» ⌝ }
 {
     if !is_handle(header, handle) {
         return Status::BAD_HANDLE;

@@ -38,7 +38,7 @@ pub fn total_of(records: &[u8]) -> u32
 }
 
 // Where the cells of each slot begin, and the total.
-fn place(records: &[u8], offsets: &mut [u32])
+fn lay_out(records: &[u8], offsets: &mut [u32])
     requires { ⌜ length (now offsets) ≡ windowsMax + 1 ⌝ }
     ensures { λ _. ⌜ now (offsets .exit) ≡ offsetsOf (exponent (now (records .entry))) ⌝ }
 {
@@ -53,8 +53,8 @@ fn place(records: &[u8], offsets: &mut [u32])
 }
 
 // Where the cells of each base register begin, and the total.
-pub fn place_cells(records: &Records, offsets: &mut CellOffsets)
+pub fn lay_out_cells(records: &Records, offsets: &mut CellOffsets)
     ensures { λ _. ⌜ now (offsets .exit) ≡ offsetsOf (exponent (now (records .entry))) ⌝ }
 {
-    place(records, offsets);
+    lay_out(records, offsets);
 }

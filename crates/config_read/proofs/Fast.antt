@@ -11,7 +11,7 @@ use Rattle.config_read.specs.declared.target.Target.{Target}
 use Rattle.config_read.specs.declared.target.Target.the-variants.{Function, Refused}
 use Rattle.config_read.specs.Target.{target}
 use Rattle.config_read.specs.Read.{readOf, fastReadOf}
-use Rattle.config_read.specs.Meaning.{FastRead}
+use Rattle.config_read.specs.Meaning.{FastReadAgrees}
 use Rattle.config_read.proofs.Targets.{target-refuses}
 
 -- of a target whose refusal is not taken for success
@@ -24,6 +24,6 @@ fast-of r w register (Refused s) n =
     ((λ e. absurd (true≢false e), λ e. absurd (n s refl e)), (λ e. absurd (true≢false e), λ e. refl))
 
 -- THEOREM: an accepted fast read is the plain read; a refused one is refused as the plain read is, and gives all ones
-pub fast-read : FastRead
+pub fast-read : FastReadAgrees
 fast-read w header registers handle register =
     fast-of (registerByte registers) w register (target (isHandle header handle) w handle register) (target-refuses (isHandle header handle) w handle register)

@@ -15,8 +15,8 @@ abbrev pub InsideRegisters : Type 0
 InsideRegisters = (good : Bool) (w handle register i : ℕ) → target good w handle register ≡ Function i → register + w ≤ registersEach
 
 -- an accepted fast read equals the plain read; a refused one is refused as the plain read is, and gives all ones of its width
-abbrev pub FastRead : Type 0
-FastRead =
+abbrev pub FastReadAgrees : Type 0
+FastReadAgrees =
     (w : ℕ) (header registers : List ℕ) (handle register : ℕ)
     → ((fastReadConfig w header registers handle register .fault ≡ false) ↔ (readConfig w header registers handle register .status ≡ successful))
     × ((fastReadConfig w header registers handle register .fault ≡ false

@@ -4,7 +4,7 @@ use mathlib.Core.List.{List}
 use Rattle.board.specs.Handles.{isHandle}
 use Rattle.board.specs.Layout.{registerByte}
 use Rattle.numbers.specs.Numbers.{little}
-use Rattle.board.specs.Reads.{accepted, refused, acceptedFast, refusedFast}
+use Rattle.board.specs.Reads.{acceptedRead, refusedRead, acceptedFast, refusedFast}
 use Rattle.board.specs.declared.read.Read.{Read}
 use Rattle.board.specs.declared.read.FastRead.{FastRead}
 use Rattle.config_read.specs.declared.target.Target.{Target}
@@ -13,8 +13,8 @@ use Rattle.config_read.specs.Target.{target}
 
 -- w bytes of registers by function and number, little-endian; a refused read returns 0
 abbrev pub readOf : (ℕ → ℕ → ℕ) → ℕ → ℕ → Target → Read
-readOf r w register (Function i) = accepted (little w (r i) register)
-readOf r w register (Refused s) = refused s
+readOf r w register (Function i) = acceptedRead (little w (r i) register)
+readOf r w register (Refused s) = refusedRead s
 
 -- a refused fast read returns all ones of its width and a set fault flag
 abbrev pub fastReadOf : (ℕ → ℕ → ℕ) → ℕ → ℕ → Target → FastRead

@@ -35,20 +35,20 @@ abbrev pub movesWindows : ℕ → ℕ → Bool
 movesWindows w register = (leb register 0x04 && ltb 0x04 (register + w)) || (ltb register 0x28 && ltb 0x10 (register + w))
 
 -- a write's status, and the registers and the kept list that it leaves
-pub record Wrote : Type 0 where
+pub record ConfigWritten : Type 0 where
   pub status : Status
   pub registers : List ℕ
   pub windows : List ℕ
 
-abbrev pub wrote : Status → List ℕ → List ℕ → Wrote
-wrote status registers windows = record { status = status; registers = registers; windows = windows }
+abbrev pub configWritten : Status → List ℕ → List ℕ → ConfigWritten
+configWritten status registers windows = record { status = status; registers = registers; windows = windows }
 
-abbrev pub writeTo : List ℕ → List ℕ → List ℕ → List ℕ → ℕ → ℕ → ℕ → Target → Wrote
+abbrev pub writeTo : List ℕ → List ℕ → List ℕ → List ℕ → ℕ → ℕ → ℕ → Target → ConfigWritten
 writeTo header records registers windows w register value (Function i) =
     let after = bytesWritten w records i register value registers in
-    wrote successful after (cond (movesWindows w register) (keptList (windowList header records after)) windows)
-writeTo header records registers windows w register value (Refused s) = wrote s registers windows
+    configWritten successful after (cond (movesWindows w register) (keptList (windowList header records after)) windows)
+writeTo header records registers windows w register value (Refused s) = configWritten s registers windows
 
-abbrev pub writeConfig : ℕ → List ℕ → List ℕ → List ℕ → List ℕ → ℕ → ℕ → ℕ → Wrote
+abbrev pub writeConfig : ℕ → List ℕ → List ℕ → List ℕ → List ℕ → ℕ → ℕ → ℕ → ConfigWritten
 writeConfig w header records registers windows handle register value =
     writeTo header records registers windows w register value (target (isHandle header handle) w handle register)

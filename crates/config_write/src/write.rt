@@ -19,7 +19,7 @@ ghost use mathlib.Core.Path.{_≡_};
 ghost use Prim.Native.Nat.{_+_, _≤_};
 ghost use Rattle.board.specs.Layout.{registersEach};
 ghost use Rattle.numbers.specs.Numbers.{bytes};
-ghost use Rattle.config_write.specs.Write.{written, byteWritten, bytesWritten, movesWindows, wrote, writeConfig};
+ghost use Rattle.config_write.specs.Write.{written, byteWritten, bytesWritten, movesWindows, configWritten, writeConfig};
 
 // The register after the base registers.
 const BASES_END: u8 = 0x28;
@@ -89,7 +89,7 @@ pub fn write_config(
     register: u8,
     value: u32,
 ) -> Status
-    ensures { λ r. ⌜ wrote r (now (registers .exit)) (now (windows .exit)) ≡ writeConfig (bytes width) (now (header .entry)) (now (records .entry)) (now (registers .entry)) (now (windows .entry)) handle register value ⌝ }
+    ensures { λ r. ⌜ configWritten r (now (registers .exit)) (now (windows .exit)) ≡ writeConfig (bytes width) (now (header .entry)) (now (records .entry)) (now (registers .entry)) (now (windows .entry)) handle register value ⌝ }
 {
     match target_of(header, width, handle, register) {
         Target::Function(function) => {

@@ -1,3 +1,3 @@
 -- The definitions that contracts cite.
 pub mod Data
-pub mod Asked
+pub mod CCalls

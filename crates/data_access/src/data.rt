@@ -1,7 +1,7 @@
 // Reading and writing cells.
-use crate::at_place::fast_read_at;
-use crate::at_place::read_at;
-use crate::at_place::write_at;
+use crate::at_cells::fast_read_at;
+use crate::at_cells::read_at;
+use crate::at_cells::write_at;
 use board::address::BusAddress;
 use board::layout::CellOffsets;
 use board::layout::Header;
@@ -11,12 +11,12 @@ use board::read::FastRead;
 use board::read::Read;
 use board::space::Space;
 use board::status::Status;
-use data_cells::place::data_place;
+use data_cells::target::cell_target;
 use numbers::number::Width;
 ghost use mathlib.Core.Path.{_≡_};
 ghost use Rattle.numbers.specs.Numbers.{bytes};
 ghost use Rattle.board.specs.Spaces.{spaceNumber};
-ghost use Rattle.data_access.specs.Data.{readData, fastReadData, wrote, writeData};
+ghost use Rattle.data_access.specs.Data.{readData, fastReadData, dataWritten, writeData};
 
 // Reads a number of a width in a window.
 pub fn read_data(
@@ -32,7 +32,7 @@ pub fn read_data(
 ) -> Read
     ensures { λ r. ⌜ r ≡ readData (bytes width) (now (header .entry)) (now (records .entry)) (now (windows .entry)) (now (offsets .entry)) (now (cells .entry)) (spaceNumber space) handle (address .0) ⌝ }
 {
-    let place = data_place(
+    let target = cell_target(
         header,
         records,
         windows,
@@ -43,7 +43,7 @@ pub fn read_data(
         handle,
         address,
     );
-    read_at(cells, width, place)
+    read_at(cells, width, target)
 }
 
 // The same, with a fault flag in place of the status.
@@ -60,7 +60,7 @@ pub fn fast_read_data(
 ) -> FastRead
     ensures { λ r. ⌜ r ≡ fastReadData (bytes width) (now (header .entry)) (now (records .entry)) (now (windows .entry)) (now (offsets .entry)) (now (cells .entry)) (spaceNumber space) handle (address .0) ⌝ }
 {
-    let place = data_place(
+    let target = cell_target(
         header,
         records,
         windows,
@@ -71,7 +71,7 @@ pub fn fast_read_data(
         handle,
         address,
     );
-    fast_read_at(cells, width, place)
+    fast_read_at(cells, width, target)
 }
 
 // Writes the low bytes of a value in a window, so that the same read gives them back.
@@ -87,9 +87,9 @@ pub fn write_data(
     address: BusAddress,
     value: u32,
 ) -> Status
-    ensures { λ r. ⌜ wrote r (now (cells .exit)) ≡ writeData (bytes width) (now (header .entry)) (now (records .entry)) (now (windows .entry)) (now (offsets .entry)) (now (cells .entry)) (spaceNumber space) handle (address .0) value ⌝ }
+    ensures { λ r. ⌜ dataWritten r (now (cells .exit)) ≡ writeData (bytes width) (now (header .entry)) (now (records .entry)) (now (windows .entry)) (now (offsets .entry)) (now (cells .entry)) (spaceNumber space) handle (address .0) value ⌝ }
 {
-    let place = data_place(
+    let target = cell_target(
         header,
         records,
         windows,
@@ -100,5 +100,5 @@ pub fn write_data(
         handle,
         address,
     );
-    write_at(cells, width, value, place)
+    write_at(cells, width, value, target)
 }

@@ -1,5 +1,5 @@
 // Data calls: reads and writes of cells.
-pub mod asked;
-mod at_place;
+mod at_cells;
+pub mod c_calls;
 pub mod data;
 mod stored;

@@ -7,7 +7,7 @@ ghost use Prim.Native.Nat.{_+_, _≤_};
 ghost use lib.ListN.{length};
 ghost use lib.Seq.{sets};
 ghost use Rattle.numbers.specs.Numbers.{byteAt, bytes, little, big, bigBytes};
-ghost use Rattle.data_cells.specs.Cells.{valueAt};
+ghost use Rattle.data_cells.specs.Cells.{cellsValue};
 
 fn one_at(cells: &[u8], at: usize) -> u32
     requires { ⌜ at + 1 ≤ length (now cells) ⌝ }
@@ -44,10 +44,10 @@ fn little_long_at(cells: &[u8], at: usize) -> u32
     little_word_at(cells, at) + 65536 * little_word_at(cells, at + 2)
 }
 
-// The value in the cells at a place. Where it is to be reversed it is read least byte first at once: a processor then needs one load either way.
+// The value in the cells at a position. Where it is to be reversed it is read least byte first at once: a processor then needs one load either way.
 pub(crate) fn value_at(cells: &[u8], at: usize, order: u8, width: Width) -> u32
     requires { ⌜ at + bytes width ≤ length (now cells) ⌝ }
-    ensures { λ r. ⌜ r ≡ valueAt order (bytes width) at (now (cells .entry)) ⌝ }
+    ensures { λ r. ⌜ r ≡ cellsValue order (bytes width) at (now (cells .entry)) ⌝ }
 {
     match width {
         Width::Byte => one_at(cells, at),
@@ -89,7 +89,7 @@ fn put_long(cells: &mut [u8], at: usize, value: u32)
     put_word(cells, at + 2, value);
 }
 
-// Stores a number at a place.
+// Stores a number at a position.
 pub(crate) fn put_number(cells: &mut [u8], at: usize, width: Width, value: u32)
     requires { ⌜ at + bytes width ≤ length (now cells) ⌝ }
     ensures { λ _. ⌜ now (cells .exit) ≡ sets (now (cells .entry)) at (bigBytes (bytes width) value) ⌝ }

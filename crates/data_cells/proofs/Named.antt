@@ -1,4 +1,4 @@
--- What is found is found for a handle, so that its function stands one place before.
+-- What is found is found for a handle, so that its function stands one target before.
 use Prim.Native.Nat.{ℕ, _-_, _<_}
 use mathlib.Core.List.{List}
 use mathlib.Core.Path.{_≡_, refl, sym, _∙_}
@@ -7,23 +7,23 @@ use Rattle.data_window.specs.declared.find.Finding.{Finding}
 use Rattle.data_window.specs.declared.find.Finding.the-variants.{Found, Refused}
 use Rattle.data_window.specs.Find.{findIn}
 use Rattle.data_window.proofs.Meaning.{found-means}
-use Rattle.data_cells.specs.declared.place.Place.{Place}
-use Rattle.data_cells.specs.Cells.{placeOf, placeIn, dataPlace}
+use Rattle.data_cells.specs.declared.target.CellTarget.{CellTarget}
+use Rattle.data_cells.specs.Cells.{cellTargetOf, cellTargetIn, cellTarget}
 
 -- only a finding of a window asks for the function
 found-only : (records offsets : List ℕ) (room w p q : ℕ) (f : Finding) → ((base distance remaining : ℕ) → f ≡ Found base distance remaining → p ≡ q)
-    → placeIn records offsets room w p f ≡ placeIn records offsets room w q f
-unfolding placeOf
+    → cellTargetIn records offsets room w p f ≡ cellTargetIn records offsets room w q f
+unfolding cellTargetOf
 found-only records offsets room w p q (Found base distance remaining) h = rw (h base distance remaining refl)
 found-only records offsets room w p q (Refused r) h = refl
 
--- so the place for what is found is the access's, whatever the function's place is given as for a number that is no handle
-pub place-named : (header records windows offsets : List ℕ) (w room space handle address function : ℕ) (finding : Finding) (place : Place)
+-- so the target for what is found is the access's, whatever the function's target is given as for a number that is no handle
+pub target-named : (header records windows offsets : List ℕ) (w room space handle address function : ℕ) (finding : Finding) (target : CellTarget)
     → finding ≡ findIn w header records windows offsets room space handle address
     → (0 < handle → function ≡ handle - 1)
-    → place ≡ placeIn records offsets room w function finding
-    → place ≡ dataPlace w header records windows offsets room space handle address
-place-named header records windows offsets w room space handle address function finding place f h p =
+    → target ≡ cellTargetIn records offsets room w function finding
+    → target ≡ cellTarget w header records windows offsets room space handle address
+target-named header records windows offsets w room space handle address function finding target f h p =
     p
     ∙ found-only records offsets room w function (handle - 1) finding
     (λ base distance remaining e. h (handle-place header handle (found-means _ _ _ _ _ _ _ _ base distance remaining (sym f ∙ e) .0 .0) .0))

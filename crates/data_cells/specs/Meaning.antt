@@ -4,13 +4,13 @@ use mathlib.Core.List.{List}
 use mathlib.Core.Logic.{_⊎_}
 use mathlib.Core.Path.{_≡_}
 use lib.ListN.{length, getD}
-use Rattle.data_cells.specs.Cells.{valueAt, cellsAfter}
+use Rattle.data_cells.specs.Cells.{cellsValue, cellsAfter}
 
--- a read after a write of the same width at the same place gives the value written, in every order
+-- a read after a write of the same width at the same cells gives the value written, in every order
 abbrev pub ReadBack : Type 0
 ReadBack =
     (order w at value : ℕ) (cells : List ℕ) → at + w ≤ length cells
-    → valueAt order w at (cellsAfter order w at value cells) ≡ value % 256 ^ w
+    → cellsValue order w at (cellsAfter order w at value cells) ≡ value % 256 ^ w
 
 -- a write changes only the cells of its width
 pub record OthersKept (order w at value : ℕ) (cells : List ℕ) : Type 0 where

@@ -1,2 +1,2 @@
 // The cells of an access: where they stand, what they hold and what a write leaves.
-pub mod place;
+pub mod target;

@@ -8,11 +8,11 @@ use lib.Dec.{eqb}
 use lib.Pow.{pow-mono}
 use Rattle.numbers.specs.declared.number.Width.the-variants.{Byte, Word, Long}
 use Rattle.numbers.proofs.Numbers.{power-fours}
-use Rattle.data_order.specs.Orders.{placed}
+use Rattle.data_order.specs.Orders.{cellDistance}
 use Rattle.data_order.specs.Meaning.{InsideWindow}
 
 -- a distance below 2 ^ k, where k is 2 or more, is placed below it
-placed-below : (order w k o : ℕ) → 0 < w → 2 ≤ k → o < 2 ^ k → placed order w o < 2 ^ k
+placed-below : (order w k o : ℕ) → 0 < w → 2 ≤ k → o < 2 ^ k → cellDistance order w o < 2 ^ k
 placed-below order w k o p s h = by (eqb order 1)
   where
     by : (b : Bool) → cond b (bitXor o (4 - w)) o < 2 ^ k
@@ -20,7 +20,7 @@ placed-below order w k o p s h = by (eqb order 1)
     by false = h
 
 -- and an aligned one aligned
-placed-aligned : (order e o : ℕ) → (4 - 2 ^ e) % 2 ^ e ≡ 0 → o % 2 ^ e ≡ 0 → placed order (2 ^ e) o % 2 ^ e ≡ 0
+placed-aligned : (order e o : ℕ) → (4 - 2 ^ e) % 2 ^ e ≡ 0 → o % 2 ^ e ≡ 0 → cellDistance order (2 ^ e) o % 2 ^ e ≡ 0
 placed-aligned order e o a h = by (eqb order 1)
   where
     by : (b : Bool) → cond b (bitXor o (4 - 2 ^ e)) o % 2 ^ e ≡ 0

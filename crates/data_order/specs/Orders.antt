@@ -6,8 +6,8 @@ use lib.Dec.{eqb}
 use Rattle.numbers.specs.Numbers.{reversed}
 
 -- where w cells stand for a distance o from the window's start: order 1 uses o XOR 3 for bytes, o XOR 2 for words, o for longwords; every other order o
-abbrev pub placed : ℕ → ℕ → ℕ → ℕ
-placed order w o = cond (eqb order 1) (bitXor o (4 - w)) o
+abbrev pub cellDistance : ℕ → ℕ → ℕ → ℕ
+cellDistance order w o = cond (eqb order 1) (bitXor o (4 - w)) o
 
 -- a value of w bytes as the cells hold it, highest byte first, and back: order 2 reverses the bytes
 abbrev pub ordered : ℕ → ℕ → ℕ → ℕ

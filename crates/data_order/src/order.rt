@@ -4,7 +4,7 @@ use numbers::number::bytes_by_shift;
 use numbers::number::reversed;
 ghost use mathlib.Core.Path.{_≡_};
 ghost use Rattle.numbers.specs.Numbers.{bytes};
-ghost use Rattle.data_order.specs.Orders.{placed, ordered};
+ghost use Rattle.data_order.specs.Orders.{cellDistance, ordered};
 
 // The byte orders that differ from order 0.
 const SWAPPED_PLACES: u8 = 1;
@@ -12,8 +12,8 @@ const SWAPPED_PLACES: u8 = 1;
 pub const REVERSED_BYTES: u8 = 2;
 
 // Where the cells for a distance stand.
-pub fn placed(order: u8, width: Width, distance: u32) -> u32
-    ensures { λ r. ⌜ r ≡ placed order (bytes width) distance ⌝ }
+pub fn cell_distance(order: u8, width: Width, distance: u32) -> u32
+    ensures { λ r. ⌜ r ≡ cellDistance order (bytes width) distance ⌝ }
 {
     if order != SWAPPED_PLACES {
         return distance;

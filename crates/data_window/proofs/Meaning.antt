@@ -9,7 +9,7 @@ use Rattle.numbers.specs.Numbers.{isMultiple}
 use Rattle.window.specs.Window.{Window, end, In}
 use Rattle.data_window.specs.declared.find.Finding.the-variants.{Found, Refused}
 use Rattle.data_window.specs.declared.refusal.Refusal.the-variants.{BadHandle, ShortCells, NotAligned, Contested, WidthMissing}
-use Rattle.data_window.specs.Find.{holds, judged, inList, find}
+use Rattle.data_window.specs.Find.{holds, checkedWindow, inList, find}
 use Rattle.data_window.specs.Meaning.{FoundFor, FoundMeans}
 
 module _ (offered : ℕ → Bool) (l : List Window) (space handle address base distance remaining : ℕ) where
@@ -18,7 +18,7 @@ module _ (offered : ℕ → Bool) (l : List Window) (space handle address base d
   ForHandle = (offered base ≡ true) × FoundFor l space handle address base distance remaining
 
   -- by the window that holds the address
-  found-here : (v : Window) → In v l → holds space handle address v ≡ true → judged offered address v ≡ Found base distance remaining → ForHandle
+  found-here : (v : Window) → In v l → holds space handle address v ≡ true → checkedWindow offered address v ≡ Found base distance remaining → ForHandle
   found-here v i own = by (v .contested) (offered (v .base)) refl refl
     where
       by : (c t : Bool) → v .contested ≡ c → offered (v .base) ≡ t
@@ -38,7 +38,7 @@ module _ (offered : ℕ → Bool) (l : List Window) (space handle address base d
     where
       by : (b : Bool) → holds space handle address v ≡ b
           → (inList offered space handle address m ≡ Found base distance remaining → ForHandle)
-          → cond b (judged offered address v) (inList offered space handle address m) ≡ Found base distance remaining
+          → cond b (checkedWindow offered address v) (inList offered space handle address m) ≡ Found base distance remaining
           → ForHandle
       by true own rest e = found-here v (i v (inl refl)) own e
       by false own rest e = rest e

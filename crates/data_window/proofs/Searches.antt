@@ -14,7 +14,7 @@ use Rattle.window.specs.Window.{Window, end}
 use Rattle.window.proofs.Unpacked.{unpacked-none, unpacked-one, unpacked-end}
 use Rattle.data_window.specs.declared.find.Finding.the-variants.{Refused}
 use Rattle.data_window.specs.declared.refusal.Refusal.the-variants.{Nothing}
-use Rattle.data_window.specs.Find.{holds, judged, inList}
+use Rattle.data_window.specs.Find.{holds, checkedWindow, inList}
 
 -- a space is memory exactly if it is not I/O
 pub memory-is : (n : ℕ) → n < 2 → not (eqb n 1) ≡ eqb n 0
@@ -29,7 +29,7 @@ module _ (offered : ℕ → Bool) (space handle address : ℕ) (l : List ℕ) (j
   list-none h z = rw (unpacked-none l j h z)
 
   pub list-here : j < length l → isEnd (getD l j 0) ≡ false → holds space handle address (unpack (getD l j 0)) ≡ true
-      → inList offered space handle address (unpacked (drop j l)) ≡ judged offered address (unpack (getD l j 0))
+      → inList offered space handle address (unpacked (drop j l)) ≡ checkedWindow offered address (unpack (getD l j 0))
   unfolding inList
   list-here h n t = rw (unpacked-one l j h n, t)
 

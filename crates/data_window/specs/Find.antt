@@ -26,15 +26,15 @@ abbrev pub offers : ℕ → ℕ → Bool
 offers w widths = eqb (widths / w % 2) 1
 
 -- of a window that holds the address: contested, or not of this width, or found with the distance from its start and the bytes that remain to its end
-abbrev pub judged : (ℕ → Bool) → ℕ → Window → Finding
-judged offered address w =
+abbrev pub checkedWindow : (ℕ → Bool) → ℕ → Window → Finding
+checkedWindow offered address w =
     cond (w .contested) (Refused Contested) (cond (offered (w .base)) (Found (w .base) (address - w .start) (end w - address)) (Refused WidthMissing))
 
 -- of the first window of a list that holds it
 unfoldable pub inList : (ℕ → Bool) → ℕ → ℕ → ℕ → List Window → Finding
 inList offered space handle address [] = Refused Nothing
 inList offered space handle address (w ∷ l) =
-    cond (holds space handle address w) (judged offered address w) (inList offered space handle address l)
+    cond (holds space handle address w) (checkedWindow offered address w) (inList offered space handle address l)
 
 -- the checks in their order, of a handle that is good or not and cells that are short or not; offered b: base register b offers this width
 unfoldable pub find : Bool → Bool → (ℕ → Bool) → List Window → ℕ → ℕ → ℕ → ℕ → Finding

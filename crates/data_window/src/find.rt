@@ -30,7 +30,7 @@ ghost use Rattle.board.specs.Spaces.{spaceNumber};
 ghost use Rattle.numbers.specs.Numbers.{bytes};
 ghost use Rattle.window.specs.Kept.{unpack, unpacked};
 ghost use Rattle.window.specs.Window.{end};
-ghost use Rattle.data_window.specs.Find.{holds, offers, judged, inList, findIn};
+ghost use Rattle.data_window.specs.Find.{holds, offers, checkedWindow, inList, findIn};
 
 // The window that an access is for, with its distance from the window's start and the bytes that remain to its end; or the check that failed.
 pub enum Finding {
@@ -70,9 +70,9 @@ fn offers(width: Width, widths: u8) -> bool
 }
 
 // What is found in a window that holds the address.
-fn judged(records: &Records, w: u64, width: Width, function: u32, address: u32) -> Finding
+fn check_window(records: &Records, w: u64, width: Width, function: u32, address: u32) -> Finding
     requires { ⌜ (unpack w .start ≤ address) × (address < end (unpack w)) ⌝ }
-    ensures { λ r. ⌜ r ≡ judged (λ b. offers (bytes width) (widths (now (records .entry)) function b)) address (unpack w) ⌝ }
+    ensures { λ r. ⌜ r ≡ checkedWindow (λ b. offers (bytes width) (widths (now (records .entry)) function b)) address (unpack w) ⌝ }
 {
     let base = base_of(w) as u8;
     let contested = is_contested(w);
@@ -111,7 +111,7 @@ fn in_list(
             return Finding::Refused(Refusal::Nothing);
         }
         if holds(w, space, handle, address) {
-            return judged(records, w, width, place_of_handle(handle), address);
+            return check_window(records, w, width, place_of_handle(handle), address);
         }
         j += 1;
     }

@@ -3,7 +3,7 @@ use board::status::Status;
 ghost use mathlib.Core.Path.{_≡_};
 ghost use Rattle.data_window.specs.Find.{statusOf};
 
-// The check of a data access that failed. A cell past the buffer, which only an altered board has, is found last, when the place of the cells is worked out.
+// The check of a data access that failed. A cell past the buffer, which only an altered board has, is found last, when the cells are worked out.
 pub enum Refusal {
     BadHandle,
     ShortCells,

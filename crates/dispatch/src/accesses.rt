@@ -6,11 +6,11 @@ use board::layout::Records;
 use board::layout::Registers;
 use board::layout::Windows;
 use board::space::Space;
+use call::Access;
 use call::answer::Answer;
 use call::answer::of_fast_read;
 use call::answer::of_read;
 use call::answer::of_status;
-use call::call::Access;
 use config_read::read::fast_read_config;
 use config_read::read::read_config;
 use config_write::write::write_config;
@@ -19,7 +19,7 @@ use data_access::data::read_data;
 use data_access::data::write_data;
 use numbers::number::Width;
 ghost use mathlib.Core.Path.{_≡_};
-ghost use Rattle.reference.specs.State.{configured, configAccess, stored, dataAccess};
+ghost use Rattle.reference.specs.State.{configOutcome, configAccess, dataOutcome, dataAccess};
 
 // A configuration access.
 pub(crate) fn config_access(
@@ -32,7 +32,7 @@ pub(crate) fn config_access(
     register: u8,
     access: Access,
 ) -> Answer
-    ensures { λ r. ⌜ configured r (now (registers .exit)) (now (windows .exit)) ≡ configAccess (now (header .entry)) (now (records .entry)) (now (registers .entry)) (now (windows .entry)) width handle register access ⌝ }
+    ensures { λ r. ⌜ configOutcome r (now (registers .exit)) (now (windows .exit)) ≡ configAccess (now (header .entry)) (now (records .entry)) (now (registers .entry)) (now (windows .entry)) width handle register access ⌝ }
 {
     match access {
         Access::Read => { of_read(read_config(header, registers, width, handle, register)) },
@@ -67,7 +67,7 @@ pub(crate) fn data_access(
     address: BusAddress,
     access: Access,
 ) -> Answer
-    ensures { λ r. ⌜ stored r (now (cells .exit)) ≡ dataAccess (now (header .entry)) (now (records .entry)) (now (windows .entry)) (now (offsets .entry)) (now (cells .entry)) space width handle address access ⌝ }
+    ensures { λ r. ⌜ dataOutcome r (now (cells .exit)) ≡ dataAccess (now (header .entry)) (now (records .entry)) (now (windows .entry)) (now (offsets .entry)) (now (cells .entry)) space width handle address access ⌝ }
 {
     match access {
         Access::Read => {

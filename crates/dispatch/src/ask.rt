@@ -7,6 +7,7 @@ use board::layout::Records;
 use board::layout::Registers;
 use board::layout::Used;
 use board::layout::Windows;
+use call::Query;
 use call::answer::Answer;
 use call::answer::of_chain;
 use call::answer::of_listing;
@@ -14,14 +15,13 @@ use call::answer::of_status;
 use call::answer::of_to_bus;
 use call::answer::of_to_cpu;
 use call::answer::of_used;
-use call::call::Query;
 use call::searches::class_answer;
 use call::searches::device_answer;
 use card_used::used::get_card_used;
 use interrupt_list::listing::list_chain;
-use unsupported::unsupported::get_routing;
-use unsupported::unsupported::set_interrupt;
-use unsupported::unsupported::special_cycle;
+use unsupported::get_routing;
+use unsupported::set_interrupt;
+use unsupported::special_cycle;
 use window_listing::listing::list_window;
 ghost use mathlib.Core.List.{List};
 ghost use mathlib.Core.Path.{_≡_};
@@ -58,7 +58,7 @@ pub(crate) fn ask(
             handle,
             address,
         )),
-        Query::ListChain { line, place } => of_chain(list_chain(records, hooks, line, place)),
+        Query::ListChain { line, index } => of_chain(list_chain(records, hooks, line, index)),
         Query::GetCardUsed { handle } => of_used(get_card_used(header, used, handle)),
         Query::SpecialCycle { bus, message } => of_status(special_cycle(bus, message)),
         Query::GetRouting { handle } => of_status(get_routing(handle)),

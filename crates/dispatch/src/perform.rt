@@ -9,21 +9,21 @@ use board::layout::Records;
 use board::layout::Registers;
 use board::layout::Used;
 use board::layout::Windows;
+use call::Call;
 use call::answer::Answer;
 use call::answer::of_number;
 use call::answer::of_status;
 use call::answer::of_verdict;
-use call::call::Call;
 use card_used::used::set_card_used;
 use image_writer::write::write_image;
 use interrupt_hook::chain::hook_interrupt;
 use interrupt_hook::chain::unhook_interrupt;
 use load::calls::load;
-use reset::reset::reset;
-use resource::resource::get_resource;
+use reset::reset;
+use resource::get_resource;
 ghost use mathlib.Core.Path.{_≡_};
 ghost use Rattle.board.specs.Parts.{parts};
-ghost use Rattle.reference.specs.State.{next, step};
+ghost use Rattle.reference.specs.State.{outcome, step};
 
 // Performs a call: its own bytes, an image or an output, are lent beside the board's parts and the cells.
 pub fn perform(
@@ -38,7 +38,7 @@ pub fn perform(
     cells: &mut [u8],
     own: &mut [u8],
 ) -> Answer
-    ensures { λ r. ⌜ next r (parts (now (header .exit)) (now (records .exit)) (now (registers .exit)) (now (windows .exit)) (now (offsets .exit)) (now (hooks .exit)) (now (used .exit)) (now (cells .exit))) (now (own .exit)) ≡ step (parts (now (header .entry)) (now (records .entry)) (now (registers .entry)) (now (windows .entry)) (now (offsets .entry)) (now (hooks .entry)) (now (used .entry)) (now (cells .entry))) call (now (own .entry)) ⌝ }
+    ensures { λ r. ⌜ outcome r (parts (now (header .exit)) (now (records .exit)) (now (registers .exit)) (now (windows .exit)) (now (offsets .exit)) (now (hooks .exit)) (now (used .exit)) (now (cells .exit))) (now (own .exit)) ≡ step (parts (now (header .entry)) (now (records .entry)) (now (registers .entry)) (now (windows .entry)) (now (offsets .entry)) (now (hooks .entry)) (now (used .entry)) (now (cells .entry))) call (now (own .entry)) ⌝ }
 {
     match call {
         Call::Load => {

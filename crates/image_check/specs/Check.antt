@@ -30,8 +30,8 @@ abbrev pub factsOf : List ℕ → Facts
 factsOf image = facts image (λ i. recordOk (recordAt (recordsOf image) i)) (exponent (recordsOf image))
 
 -- the refusals but for the upper length
-abbrev pub judged : List ℕ → ℕ → Verdict
-judged image room = firstRefusal (factsOf image) room
+abbrev pub checkedAnyLength : List ℕ → ℕ → Verdict
+checkedAnyLength image room = firstRefusal (factsOf image) room
 
 unfoldable pub checked : List ℕ → ℕ → Verdict
-checked image room = cond (ltb imageMax (length image)) (refused 1) (judged image room)
+checked image room = cond (ltb imageMax (length image)) (refused 1) (checkedAnyLength image room)

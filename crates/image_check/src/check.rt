@@ -18,7 +18,7 @@ ghost use Rattle.image_layout.specs.Image.{imageRecord, recordAt, sum};
 ghost use Rattle.image_record.specs.Record.{recordOk};
 ghost use Rattle.image_refusals.specs.Refusals.{firstBad};
 ghost use Rattle.image_refusals.specs.Steps.{recordsVerdict};
-ghost use Rattle.image_check.specs.Check.{judged, checked};
+ghost use Rattle.image_check.specs.Check.{checkedAnyLength, checked};
 
 // Bytes of an image at most.
 pub const IMAGE: usize = 65536;
@@ -59,8 +59,8 @@ fn records_verdict(records: &[u8], count: usize, said: u32, room: usize) -> Verd
 }
 
 // All refusals but for the upper length, which an image that comes in portions does not have.
-pub fn judge(image: &[u8], room: usize) -> Verdict
-    ensures { λ r. ⌜ r ≡ judged (now (image .entry)) room ⌝ }
+pub fn check_any_length(image: &[u8], room: usize) -> Verdict
+    ensures { λ r. ⌜ r ≡ checkedAnyLength (now (image .entry)) room ⌝ }
 {
     let t = trailer_of(image);
     let form = form_refusal(image.len(), t.edition, t.count, t.distance);
@@ -80,5 +80,5 @@ pub fn check_image(image: &[u8], room: usize) -> Verdict
     if IMAGE < image.len() {
         return plain(1);
     }
-    judge(image, room)
+    check_any_length(image, room)
 }

@@ -9,7 +9,7 @@ pub const IMAGE_RECORD: usize = 544;
 // Bytes of the trailer.
 pub const TRAILER: usize = 12;
 
-// A part of an image: where it begins, and the first place past it.
+// A part of an image: where it begins, and the first position past it.
 pub struct Range {
     pub from: usize,
     pub to: usize,
@@ -22,8 +22,8 @@ pub fn image_size(count: u32) -> usize
     IMAGE_RECORD * count as usize + TRAILER
 }
 
-// The place at a distance back from the end, 0 where there is none.
-pub(crate) fn place_back(long: usize, distance: usize) -> usize
+// The position at a distance back from the end, 0 where there is none.
+pub(crate) fn position_back(long: usize, distance: usize) -> usize
     ensures { λ r. ⌜ r ≡ long - distance ⌝ }
 {
     if long < distance { 0 } else { long - distance }
@@ -33,7 +33,7 @@ pub(crate) fn place_back(long: usize, distance: usize) -> usize
 pub fn records_range(long: usize, count: u32) -> Range
     ensures { λ r. ⌜ r ≡ recordsRange long count ⌝ }
 {
-    let from = place_back(long, image_size(count));
+    let from = position_back(long, image_size(count));
     Range {
         from: from,
         to: from + IMAGE_RECORD * count as usize,

@@ -1,5 +1,5 @@
 // The trailer's numbers, read so that an image too short to have them needs no test first.
-use crate::layout::place_back;
+use crate::layout::position_back;
 use numbers::number::Width;
 use numbers::number::big_at;
 ghost use mathlib.Core.Path.{_≡_};
@@ -17,7 +17,7 @@ pub struct Trailer {
 fn number_back(image: &[u8], distance: usize, width: Width) -> u32
     ensures { λ r. ⌜ r ≡ back (bytes width) (now (image .entry)) distance ⌝ }
 {
-    big_at(image, place_back(image.len(), distance), width)
+    big_at(image, position_back(image.len(), distance), width)
 }
 
 pub fn trailer_of(image: &[u8]) -> Trailer

@@ -9,15 +9,15 @@ use Rattle.image_entry.specs.declared.entry.Entry.{Entry}
 use Rattle.image_entry.specs.Entry.{entryOk}
 
 -- the reset value and the mask of w registers, least byte first
-abbrev pub valueAt : ℕ → List ℕ → ℕ → ℕ
-valueAt w r register = little w (byteAt r) register
+abbrev pub resetAt : ℕ → List ℕ → ℕ → ℕ
+resetAt w r register = little w (byteAt r) register
 
 abbrev pub maskAt : ℕ → List ℕ → ℕ → ℕ
 maskAt w r register = little w (byteAt r) (masksAt + register)
 
 -- vendor is not FFFFh; header type has bits 6..0 zero; pin is 0 to 4
 abbrev pub vendorOk : List ℕ → Bool
-vendorOk r = not (eqb (valueAt 2 r 0x00) 0xFFFF)
+vendorOk r = not (eqb (resetAt 2 r 0x00) 0xFFFF)
 
 abbrev pub headerTypeOk : List ℕ → Bool
 headerTypeOk r = eqb (byteAt r 0x0E % 2 ^ 7) 0
@@ -33,7 +33,7 @@ masksOk r =
     && (eqb (maskAt 1 r 0x0E) 0 && (eqb (maskAt 4 r 0x2C) 0 && (eqb (maskAt 4 r 0x30) 0 && eqb (maskAt 1 r 0x3D) 0))))
 
 abbrev pub romOk : List ℕ → Bool
-romOk r = eqb (valueAt 4 r 0x30) 0
+romOk r = eqb (resetAt 4 r 0x30) 0
 
 -- base register b is at 10h + 4 b
 abbrev pub entryAt : List ℕ → ℕ → Entry

@@ -8,16 +8,16 @@ use Rattle.board.specs.Handles.{functionCount}
 use Rattle.image_layout.specs.Image.{imageSize, imageOf}
 
 -- the number of the refusal, 0 for none, and what the lent output holds
-pub record Written : Type 0 where
+pub record WriterOutcome : Type 0 where
   pub number : ℕ
   pub out : List ℕ
 
-abbrev pub written : ℕ → List ℕ → Written
-written number out = record { number = number; out = out }
+abbrev pub writerOutcome : ℕ → List ℕ → WriterOutcome
+writerOutcome number out = record { number = number; out = out }
 
 -- 1 is tested before 3; output past the image stays; the loaded values are written, without notes
-unfoldable pub write : List ℕ → List ℕ → List ℕ → Written
-write header records out =
-    cond (ltb (length out) (imageSize (functionCount header))) (written 1 out)
-    (cond (eqb (functionCount header) 0) (written 3 out)
-    (written 0 (imageOf (functionCount header) records ++ drop (imageSize (functionCount header)) out)))
+unfoldable pub writeImage : List ℕ → List ℕ → List ℕ → WriterOutcome
+writeImage header records out =
+    cond (ltb (length out) (imageSize (functionCount header))) (writerOutcome 1 out)
+    (cond (eqb (functionCount header) 0) (writerOutcome 3 out)
+    (writerOutcome 0 (imageOf (functionCount header) records ++ drop (imageSize (functionCount header)) out)))

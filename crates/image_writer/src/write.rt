@@ -14,7 +14,7 @@ ghost use mathlib.Core.List.{_++_};
 ghost use lib.ListN.{length, drop};
 ghost use Rattle.board.specs.Layout.{functionsMax, recordSize};
 ghost use Rattle.image_layout.specs.Image.{imageSize, trailer, imageOf};
-ghost use Rattle.image_writer.specs.Write.{written, write};
+ghost use Rattle.image_writer.specs.Write.{writerOutcome, writeImage};
 
 // The byte of a number whose unit is worth so much.
 fn byte_of(v: u32, worth: u32) -> u8
@@ -60,7 +60,7 @@ fn put_image(records: &[u8], count: u32, out: &mut [u8])
 
 // The loaded board as an image; the number of the refusal, 0 for none.
 pub fn write_image(header: &Header, records: &Records, out: &mut [u8]) -> u8
-    ensures { λ r. ⌜ written r (now (out .exit)) ≡ write (now (header .entry)) (now (records .entry)) (now (out .entry)) ⌝ }
+    ensures { λ r. ⌜ writerOutcome r (now (out .exit)) ≡ writeImage (now (header .entry)) (now (records .entry)) (now (out .entry)) ⌝ }
 {
     let count = function_count(header);
     if out.len() < image_size(count) {

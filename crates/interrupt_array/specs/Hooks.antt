@@ -15,35 +15,35 @@ pub record Hook : Type 0 where
 abbrev pub hook : ℕ → ℕ → ℕ → Hook
 hook handle handler parameter = record { handle = handle; handler = handler; parameter = parameter }
 
--- what stands at a place with no hook
+-- what stands at a position with no hook
 abbrev pub noHook : Hook
 noHook = hook 0 0 0
 
 abbrev pub isHook : Hook → Bool
 isHook h = not (eqb (h .handle) 0)
 
--- entry e of the array
+-- hook e of the array
 abbrev pub hookAt : List ℕ → ℕ → Hook
 hookAt hooks e = hook (getD hooks (hookSize * e) 0) (getD hooks (hookSize * e + 1) 0) (getD hooks (hookSize * e + 2) 0)
 
--- n entries from i on
-unfoldable pub entriesFrom : ℕ → ℕ → (ℕ → Hook) → List Hook
-entriesFrom i zero f = []
-entriesFrom i (suc n) f = f i ∷ entriesFrom (i + 1) n f
+-- n hooks from e on
+unfoldable pub hooksFrom : ℕ → ℕ → (ℕ → Hook) → List Hook
+hooksFrom i zero f = []
+hooksFrom i (suc n) f = f i ∷ hooksFrom (i + 1) n f
 
--- all entries
-abbrev pub entries : List ℕ → List Hook
-entries hooks = entriesFrom 0 functionsMax (hookAt hooks)
+-- all of them
+abbrev pub hooksOf : List ℕ → List Hook
+hooksOf hooks = hooksFrom 0 functionsMax (hookAt hooks)
 
--- the numbers of a hook by their place; number j of an array with these entries; the array
-abbrev pub numberOf : Hook → ℕ → ℕ
-numberOf h k = cond (eqb k 0) (h .handle) (cond (eqb k 1) (h .handler) (h .parameter))
+-- a hook's three numbers in their order; number j of an array with these hooks; the array
+abbrev pub hookNumber : Hook → ℕ → ℕ
+hookNumber h k = cond (eqb k 0) (h .handle) (cond (eqb k 1) (h .handler) (h .parameter))
 
-abbrev pub numberAt : (ℕ → Hook) → ℕ → ℕ
-numberAt f j = numberOf (f (j / hookSize)) (j % hookSize)
+abbrev pub arrayNumber : (ℕ → Hook) → ℕ → ℕ
+arrayNumber f j = hookNumber (f (j / hookSize)) (j % hookSize)
 
 abbrev pub arrayOf : (ℕ → Hook) → List ℕ
-arrayOf f = table (functionsMax * hookSize) (numberAt f)
+arrayOf f = table (functionsMax * hookSize) (arrayNumber f)
 
 -- the line and the pin of a function are the loaded ones: later writes do not reroute
 abbrev pub lineOf : List ℕ → ℕ → ℕ
@@ -69,12 +69,12 @@ abbrev pub onLine : List ℕ → ℕ → Hook → Bool
 onLine records line h = isHook h && eqb (lineOf records (h .handle)) line
 
 abbrev pub chainOf : List ℕ → List ℕ → ℕ → List Hook
-chainOf records hooks line = chosen (onLine records line) (entries hooks)
+chainOf records hooks line = chosen (onLine records line) (hooksOf hooks)
 
 -- the array that holds hooks one after the other: three numbers each, zeros after the last
-unfoldable pub numbers : List Hook → List ℕ
-numbers [] = []
-numbers (h ∷ hs) = h .handle ∷ h .handler ∷ h .parameter ∷ numbers hs
+unfoldable pub hookNumbers : List Hook → List ℕ
+hookNumbers [] = []
+hookNumbers (h ∷ hs) = h .handle ∷ h .handler ∷ h .parameter ∷ hookNumbers hs
 
 abbrev pub packed : List Hook → List ℕ
-packed hs = filledUp (functionsMax * hookSize) (numbers hs)
+packed hs = filledUp (functionsMax * hookSize) (hookNumbers hs)

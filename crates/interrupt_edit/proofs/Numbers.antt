@@ -8,10 +8,10 @@ use lib.Dec.{eqb}
 use lib.ListN.{getD}
 use borrow.Author.Tests.{eqb-true, eqb-false}
 use Rattle.board.specs.Layout.{hookSize}
-use Rattle.interrupt_array.specs.Hooks.{hookAt, numberOf, numberAt}
+use Rattle.interrupt_array.specs.Hooks.{hookAt, hookNumber, arrayNumber}
 
 -- number j of an array is the number of its entries there
-pub number-here : (l : List ℕ) (j : ℕ) → numberAt (hookAt l) j ≡ getD l j 0
+pub number-here : (l : List ℕ) (j : ℕ) → arrayNumber (hookAt l) j ≡ getD l j 0
 number-here l j = by (eqb (j % 3) 0) (eqb (j % 3) 1) refl refl
   where
     by : (a b : Bool) → eqb (j % 3) 0 ≡ a → eqb (j % 3) 1 ≡ b
@@ -24,13 +24,13 @@ number-here l j = by (eqb (j % 3) 0) (eqb (j % 3) 1) refl refl
         ap (λ i. getD l i 0) (omega arith)
 
 -- three numbers before it stands that of the entry before, and three numbers after it that of the entry after
-pub number-before : (l : List ℕ) (j : ℕ) → 0 < j / hookSize → numberOf (hookAt l (j / hookSize - 1)) (j % hookSize) ≡ getD l (j - hookSize) 0
+pub number-before : (l : List ℕ) (j : ℕ) → 0 < j / hookSize → hookNumber (hookAt l (j / hookSize - 1)) (j % hookSize) ≡ getD l (j - hookSize) 0
 number-before l j h =
     let e : (j - 3) / 3 ≡ j / 3 - 1 = omega arith in
     let r : (j - 3) % 3 ≡ j % 3 = omega arith in
     rw (← e, ← r) (number-here l (j - 3))
 
-pub number-after : (l : List ℕ) (j : ℕ) → numberOf (hookAt l (j / hookSize + 1)) (j % hookSize) ≡ getD l (j + hookSize) 0
+pub number-after : (l : List ℕ) (j : ℕ) → hookNumber (hookAt l (j / hookSize + 1)) (j % hookSize) ≡ getD l (j + hookSize) 0
 number-after l j =
     let e : (j + 3) / 3 ≡ j / 3 + 1 = omega arith in
     let r : (j + 3) % 3 ≡ j % 3 = omega arith in

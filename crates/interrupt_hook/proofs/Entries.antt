@@ -7,7 +7,7 @@ use mathlib.Core.List.{List, [], _∷_, _++_, append-nil}
 use mathlib.Core.Path.{_≡_, refl, _∙_, ap}
 use Rattle.board.specs.Layout.{functionsMax}
 use Rattle.numbers.proofs.Tables.{table-get}
-use Rattle.interrupt_array.specs.Hooks.{Hook, hookAt, entriesFrom, numberAt, arrayOf, chosen}
+use Rattle.interrupt_array.specs.Hooks.{Hook, hookAt, hooksFrom, arrayNumber, arrayOf, chosen}
 
 -- an array that is made of entries has them
 pub array-at : (f : ℕ → Hook) (e : ℕ) → e < functionsMax → hookAt (arrayOf f) e ≡ f e
@@ -19,9 +19,9 @@ array-at f e h =
     let r₁ : (0 + (3 * e + 1)) % 3 ≡ 1 = omega arith in
     let r₂ : (0 + (3 * e + 2)) % 3 ≡ 2 = omega arith in
     rw (
-      table-get 0 48 (numberAt f) (3 * e) (omega arith),
-      table-get 0 48 (numberAt f) (3 * e + 1) (omega arith),
-      table-get 0 48 (numberAt f) (3 * e + 2) (omega arith),
+      table-get 0 48 (arrayNumber f) (3 * e) (omega arith),
+      table-get 0 48 (arrayNumber f) (3 * e + 1) (omega arith),
+      table-get 0 48 (arrayNumber f) (3 * e + 2) (omega arith),
       q,
       q₁,
       q₂,
@@ -31,16 +31,16 @@ array-at f e h =
     )
 
 -- n entries, wherever they stand
-pub entries-same : (i k n : ℕ) (f g : ℕ → Hook) → ((j : ℕ) → j < n → f (i + j) ≡ g (k + j)) → entriesFrom i n f ≡ entriesFrom k n g
-unfolding entriesFrom
+pub entries-same : (i k n : ℕ) (f g : ℕ → Hook) → ((j : ℕ) → j < n → f (i + j) ≡ g (k + j)) → hooksFrom i n f ≡ hooksFrom k n g
+unfolding hooksFrom
 entries-same i k zero f g e = refl
 entries-same i k (suc n) f g e =
     let first : f i ≡ g k = rw (add-zero i, add-zero k) at (e 0 (omega arith)) in
     let rest = entries-same (i + 1) (k + 1) n f g (λ j h. ap f (omega arith) ∙ e (suc j) (omega arith) ∙ ap g (omega arith)) in
     rw (first, rest)
 
-pub entries-split : (i n m : ℕ) (f : ℕ → Hook) → entriesFrom i (n + m) f ≡ entriesFrom i n f ++ entriesFrom (i + n) m f
-unfolding entriesFrom
+pub entries-split : (i n m : ℕ) (f : ℕ → Hook) → hooksFrom i (n + m) f ≡ hooksFrom i n f ++ hooksFrom (i + n) m f
+unfolding hooksFrom
 entries-split i zero m f = rw (add-zero i, zero-add m)
 entries-split i (suc n) m f =
     let e : suc n + m ≡ suc (n + m) = omega arith in
@@ -57,8 +57,8 @@ chosen-append t (h ∷ a) b = by (t h) (chosen-append t a b)
     by true e = ap (λ (l : List Hook). h ∷ l) e
     by false e = e
 
-pub chosen-none : (t : Hook → Bool) (i n : ℕ) (f : ℕ → Hook) → ((j : ℕ) → j < n → t (f (i + j)) ≡ false) → chosen t (entriesFrom i n f) ≡ []
-unfolding chosen entriesFrom
+pub chosen-none : (t : Hook → Bool) (i n : ℕ) (f : ℕ → Hook) → ((j : ℕ) → j < n → t (f (i + j)) ≡ false) → chosen t (hooksFrom i n f) ≡ []
+unfolding chosen hooksFrom
 chosen-none t i zero f e = refl
 chosen-none t i (suc n) f e =
     let first : t (f i) ≡ false = rw (add-zero i) at (e 0 (omega arith)) in

@@ -13,11 +13,11 @@ use Rattle.board.specs.Statuses.{successful}
 use Rattle.board.specs.declared.status.Status.{Status}
 use Rattle.board.proofs.Handles.{handle-place}
 use Rattle.numbers.proofs.Tests.{both-true}
-use Rattle.interrupt_array.specs.Hooks.{Hook, hook, isHook, hookAt, entriesFrom, chosen, onLine, chainOf, lineOf, pinOf, isRouted}
-use Rattle.interrupt_hook.specs.Chain.{upToLine, placeFor, isHooked, isFree, hooked, changed, hookChecks}
+use Rattle.interrupt_array.specs.Hooks.{Hook, hook, isHook, hookAt, hooksFrom, chosen, onLine, chainOf, lineOf, pinOf, isRouted}
+use Rattle.interrupt_hook.specs.Chain.{upToLine, positionFor, isHooked, isFree, hooked, hookOutcome, hookChecks}
 use Rattle.interrupt_hook.specs.Meaning.{GoesLast}
 use Rattle.interrupt_hook.proofs.Entries.{chosen-append, chosen-none, chosen-in, chosen-out, chosen-last-out}
-use Rattle.interrupt_hook.proofs.Places.{Last, past-last}
+use Rattle.interrupt_hook.proofs.Positions.{Last, past-last}
 use Rattle.interrupt_hook.proofs.Moves.{but-last, hooked-entries}
 
 -- equality is tested either way round
@@ -64,33 +64,33 @@ module _ (records : List ℕ) where
     abbrev own : ℕ
     own = lineOf records (new .handle)
 
-    abbrev place : ℕ
-    place = placeFor records hooks own
+    abbrev position : ℕ
+    position = positionFor records hooks own
 
-    found-last : Last (λ e. upToLine records own (hookAt hooks e)) functionsMax place
+    found-last : Last (λ e. upToLine records own (hookAt hooks e)) functionsMax position
     found-last = past-last (λ e. upToLine records own (hookAt hooks e)) functionsMax
 
-    -- the last entry being free, the place is not past it
-    place-room : place < functionsMax
-    place-room =
-        let full : place ≡ 16 → ⊥ =
+    -- the last entry being free, the position is not past it
+    position-room : position < functionsMax
+    position-room =
+        let full : position ≡ 16 → ⊥ =
         λ z. true≢false (sym (rw z at (found-last .here (omega arith))) ∙ none-up-to own (hookAt hooks 15) free) in
         omega (arith, found-last .room)
 
-    rest-none : (line : ℕ) → own ≡ line → chosen (onLine records line) (entriesFrom place (15 - place) (hookAt hooks)) ≡ []
+    rest-none : (line : ℕ) → own ≡ line → chosen (onLine records line) (hooksFrom position (15 - position) (hookAt hooks)) ≡ []
     rest-none line e =
-        chosen-none (onLine records line) place (15 - place) (hookAt hooks)
-        (λ j h. not-on line (hookAt hooks (place + j)) (rw (← e) (found-last .after (place + j) (omega arith) (omega arith))))
+        chosen-none (onLine records line) position (15 - position) (hookAt hooks)
+        (λ j h. not-on line (hookAt hooks (position + j)) (rw (← e) (found-last .after (position + j) (omega arith) (omega arith))))
 
     pub hooked-last : (line : ℕ) → (new .handle ≡ 0 → ⊥)
         → chainOf records (hooked records hooks new) line
         ≡ cond (eqb line own) (chainOf records hooks line ++ new ∷ []) (chainOf records hooks line)
     hooked-last line n =
         let t = onLine records line in
-        ap (chosen t) (hooked-entries (hookAt hooks) place new place-room)
-        ∙ put-last t (entriesFrom 0 place (hookAt hooks)) (entriesFrom place (15 - place) (hookAt hooks)) new (hookAt hooks 15) (none-on line (hookAt hooks 15) free)
+        ap (chosen t) (hooked-entries (hookAt hooks) position new position-room)
+        ∙ put-last t (hooksFrom 0 position (hookAt hooks)) (hooksFrom position (15 - position) (hookAt hooks)) new (hookAt hooks 15) (none-on line (hookAt hooks 15) free)
         (λ e. rest-none line (sym (eqb-true line own (sym (new-on line new n) ∙ e))))
-        ∙ rw (new-on line new n, ← but-last (hookAt hooks) place place-room)
+        ∙ rw (new-on line new n, ← but-last (hookAt hooks) position position-room)
 
 -- a negative number is no success
 pub no-success : (n : ℕ) → _≡_ {A = Status} (record { 0 = negsuc n }) successful → ⊥
@@ -98,8 +98,8 @@ no-success n e = let z : _≡_ {A = ℕ} 0 1 = cc (ap (λ (s : Status). s .0) e)
 
 -- a hook is accepted where its function is there and no check fails
 pub accepted : (good routed free : Bool) (after before : List ℕ)
-    → hookChecks good routed free (changed successful after) (λ s. changed s before) .status ≡ successful
-    → (good ≡ true) × ((free ≡ true) × (hookChecks good routed free (changed successful after) (λ s. changed s before) .hooks ≡ after))
+    → hookChecks good routed free (hookOutcome successful after) (λ s. hookOutcome s before) .status ≡ successful
+    → (good ≡ true) × ((free ≡ true) × (hookChecks good routed free (hookOutcome successful after) (λ s. hookOutcome s before) .hooks ≡ after))
 accepted true true true after before e = (refl, (refl, refl))
 accepted true true false after before e = absurd (no-success 5 e)
 accepted true false free after before e = absurd (no-success 7 e)

@@ -1,6 +1,6 @@
 -- The laws that proofs here and above cite.
 pub mod Entries
-pub mod Places
+pub mod Positions
 pub mod Moves
 pub mod Hooking
 pub mod Unhooking

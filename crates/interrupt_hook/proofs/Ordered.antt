@@ -12,26 +12,26 @@ use Rattle.board.specs.Layout.{functionsMax, hookSize}
 use Rattle.board.specs.Statuses.{successful}
 use Rattle.board.proofs.Handles.{handle-place}
 use Rattle.numbers.proofs.Tables.{table-length}
-use Rattle.interrupt_array.specs.Hooks.{Hook, entriesFrom, chosen, onLine, chainOf, lineOf, pinOf, isRouted}
-use Rattle.interrupt_hook.specs.Chain.{Changed, changed, isHooked, isFree, hooked, unhooked, hookChecks, unhookChecks}
-use Rattle.interrupt_hook.specs.Meaning.{without, Asked, told, hooking, unhooking, cleared, isDone, taken, arrayAfter, inOrder, HookingOrder}
+use Rattle.interrupt_array.specs.Hooks.{Hook, hooksFrom, chosen, onLine, chainOf, lineOf, pinOf, isRouted}
+use Rattle.interrupt_hook.specs.Chain.{HookOutcome, hookOutcome, isHooked, isFree, hooked, unhooked, hookChecks, unhookChecks}
+use Rattle.interrupt_hook.specs.Meaning.{without, HookCall, performed, hooking, unhooking, cleared, isDone, taken, arrayAfter, inOrder, HookingOrder}
 use Rattle.interrupt_hook.proofs.Entries.{chosen-append, chosen-in, chosen-out}
 use Rattle.interrupt_hook.proofs.Hooking.{new-on, accepted, goes-last}
 use Rattle.interrupt_hook.proofs.Unhooking.{chosen-without, goes-out}
 
 -- a call is accepted, or leaves the array
-abbrev Outcome : Changed → List ℕ → Type 0
+abbrev Outcome : HookOutcome → List ℕ → Type 0
 Outcome c before = ((isDone (c .status .0) ≡ true) × (c .status ≡ successful)) ⊎ ((isDone (c .status .0) ≡ false) × (c .hooks ≡ before))
 
 hook-outcome : (good routed free : Bool) (after before : List ℕ)
-    → Outcome (hookChecks good routed free (changed successful after) (λ s. changed s before)) before
+    → Outcome (hookChecks good routed free (hookOutcome successful after) (λ s. hookOutcome s before)) before
 hook-outcome true true true after before = inl (refl, refl)
 hook-outcome true true false after before = inr (refl, refl)
 hook-outcome true false free after before = inr (refl, refl)
 hook-outcome false routed free after before = inr (refl, refl)
 
 unhook-outcome : (good there : Bool) (after before : List ℕ)
-    → Outcome (unhookChecks good there (changed successful after) (λ s. changed s before)) before
+    → Outcome (unhookChecks good there (hookOutcome successful after) (λ s. hookOutcome s before)) before
 unhook-outcome true true after before = inl (refl, refl)
 unhook-outcome true false after before = inr (refl, refl)
 unhook-outcome false there after before = inr (refl, refl)
@@ -57,7 +57,7 @@ module _ (header records : List ℕ) where
 
   -- what a call leaves stands as the hooks do after it
   hook-stands : (hooks : List ℕ) (hs : List Hook) (h : Hook) → Stands hooks hs
-      → told header records hooks (hooking h) .status ≡ successful → Stands (told header records hooks (hooking h) .hooks) (taken (hooking h) hs)
+      → performed header records hooks (hooking h) .status ≡ successful → Stands (performed header records hooks (hooking h) .hooks) (taken (hooking h) hs)
   hook-stands hooks hs h s e =
       let k = accepted (isHandle header (h .handle)) (isRouted (pinOf records (h .handle)) (lineOf records (h .handle))) (isFree hooks (h .handle)) (hooked records hooks h) hooks e in
       record {
@@ -68,8 +68,8 @@ module _ (header records : List ℕ) where
       }
 
   unhook-stands : (hooks : List ℕ) (hs : List Hook) (handle : ℕ) → Stands hooks hs
-      → told header records hooks (unhooking handle) .status ≡ successful
-      → Stands (told header records hooks (unhooking handle) .hooks) (taken (unhooking handle) hs)
+      → performed header records hooks (unhooking handle) .status ≡ successful
+      → Stands (performed header records hooks (unhooking handle) .hooks) (taken (unhooking handle) hs)
   unhook-stands hooks hs handle s e =
       record {
         size = unhook-size (isHandle header handle) (isHooked hooks handle);
@@ -80,13 +80,13 @@ module _ (header records : List ℕ) where
       }
     where
       unhook-size : (good there : Bool)
-          → length (unhookChecks good there (changed successful (unhooked hooks handle)) (λ s. changed s hooks) .hooks) ≡ functionsMax * hookSize
+          → length (unhookChecks good there (hookOutcome successful (unhooked hooks handle)) (λ s. hookOutcome s hooks) .hooks) ≡ functionsMax * hookSize
       unhook-size true true = table-length _ _ _
       unhook-size true false = s .size
       unhook-size false there = s .size
 
-  step-stands : (hooks : List ℕ) (hs : List Hook) (c : Asked) → Stands hooks hs
-      → Stands (told header records hooks c .hooks) (cond (isDone (told header records hooks c .status .0)) (taken c hs) hs)
+  step-stands : (hooks : List ℕ) (hs : List Hook) (c : HookCall) → Stands hooks hs
+      → Stands (performed header records hooks c .hooks) (cond (isDone (performed header records hooks c .status .0)) (taken c hs) hs)
   step-stands hooks hs (hooking h) s =
       ⊎-elim (λ d. rw (d .0) (hook-stands hooks hs h s (d .1))) (λ d. rw (d .0, d .1) s)
       (hook-outcome (isHandle header (h .handle)) (isRouted (pinOf records (h .handle)) (lineOf records (h .handle))) (isFree hooks (h .handle)) (hooked records hooks h) hooks)
@@ -94,13 +94,13 @@ module _ (header records : List ℕ) where
       ⊎-elim (λ d. rw (d .0) (unhook-stands hooks hs handle s (d .1))) (λ d. rw (d .0, d .1) s)
       (unhook-outcome (isHandle header handle) (isHooked hooks handle) (unhooked hooks handle) hooks)
 
-  all-stand : (cs : List Asked) (hooks : List ℕ) (hs : List Hook) → Stands hooks hs → Stands (arrayAfter header records hooks cs) (inOrder header records hooks cs hs)
+  all-stand : (cs : List HookCall) (hooks : List ℕ) (hs : List Hook) → Stands hooks hs → Stands (arrayAfter header records hooks cs) (inOrder header records hooks cs hs)
   unfolding arrayAfter inOrder
   all-stand [] hooks hs s = s
-  all-stand (c ∷ cs) hooks hs s = all-stand cs (told header records hooks c .hooks) _ (step-stands hooks hs c s)
+  all-stand (c ∷ cs) hooks hs s = all-stand cs (performed header records hooks c .hooks) _ (step-stands hooks hs c s)
 
   none-stand : Stands cleared []
-  unfolding chosen entriesFrom
+  unfolding chosen hooksFrom
   none-stand = record { size = refl; chains = λ line. refl }
 
 -- THEOREM: the chain of a line is the hooked functions of that line in hooking order

@@ -1,4 +1,4 @@
--- Laws of an array that holds hooks one after the other: its entries, chains, places and handles, and the array after a hook and an unhook.
+-- Laws of an array that holds hooks one after the other: its entries, chains, positions and handles, and the array after a hook and an unhook.
 use Prim.Native.Nat.{ℕ, zero, suc, _+_, _*_, _-_, _/_, _<_, _≤_}
 use native.Mathlib.Omega.{arith}
 use native.Mathlib.Nat.{add-zero, zero-add}
@@ -11,9 +11,9 @@ use lib.Seq.{getD-append-add, ext-getD}
 use borrow.Author.Tests.{ne-eqb, lt-ltb, le-ltb}
 use Rattle.board.specs.Layout.{functionsMax, hookSize}
 use Rattle.numbers.proofs.Tables.{table-length, table-get}
-use Rattle.interrupt_array.specs.Hooks.{Hook, noHook, hookAt, entriesFrom, entries, numberAt, arrayOf, lineOf, chosen, onLine, chainOf, numbers, packed}
+use Rattle.interrupt_array.specs.Hooks.{Hook, noHook, hookAt, hooksFrom, hooksOf, arrayNumber, arrayOf, lineOf, chosen, onLine, chainOf, hookNumbers, packed}
 use Rattle.interrupt_hook.specs.Chain.{firstFrom, isHooked, isFree}
-use Rattle.interrupt_hook.specs.Meaning.{Every, isAmong}
+use Rattle.interrupt_hook.specs.Meaning.{EveryHook, isAmong}
 use Rattle.interrupt_edit.proofs.Numbers.{number-here}
 use Rattle.interrupt_hook.proofs.Entries.{chosen-append}
 
@@ -23,8 +23,8 @@ zero-at zero j = refl
 zero-at (suc n) zero = refl
 zero-at (suc n) (suc j) = zero-at n j
 
-numbers-at : (hs : List Hook) (n e : ℕ) → hookAt (numbers hs ++ replicate n 0) e ≡ getD hs e noHook
-unfolding numbers
+numbers-at : (hs : List Hook) (n e : ℕ) → hookAt (hookNumbers hs ++ replicate n 0) e ≡ getD hs e noHook
+unfolding hookNumbers
 numbers-at [] n e = rw (zero-at n (3 * e), zero-at n (3 * e + 1), zero-at n (3 * e + 2))
 numbers-at (h ∷ hs) n zero = refl
 numbers-at (h ∷ hs) n (suc e) =
@@ -35,33 +35,33 @@ numbers-at (h ∷ hs) n (suc e) =
 
 -- entry e is the e-th hook, or none
 pub packed-at : (hs : List Hook) (e : ℕ) → hookAt (packed hs) e ≡ getD hs e noHook
-packed-at hs e = numbers-at hs (functionsMax * hookSize - length (numbers hs)) e
+packed-at hs e = numbers-at hs (functionsMax * hookSize - length (hookNumbers hs)) e
 
-numbers-length : (hs : List Hook) → length (numbers hs) ≡ hookSize * length hs
-unfolding numbers
+numbers-length : (hs : List Hook) → length (hookNumbers hs) ≡ hookSize * length hs
+unfolding hookNumbers
 numbers-length [] = refl
 numbers-length (h ∷ hs) = omega (arith, numbers-length hs)
 
 pub packed-length : (hs : List Hook) → length hs ≤ functionsMax → length (packed hs) ≡ functionsMax * hookSize
 packed-length hs h =
-    length-append (numbers hs) (replicate (functionsMax * hookSize - length (numbers hs)) 0)
-    ∙ rw (length-replicate {A = ℕ} (functionsMax * hookSize - length (numbers hs)) 0) (omega (arith, numbers-length hs))
+    length-append (hookNumbers hs) (replicate (functionsMax * hookSize - length (hookNumbers hs)) 0)
+    ∙ rw (length-replicate {A = ℕ} (functionsMax * hookSize - length (hookNumbers hs)) 0) (omega (arith, numbers-length hs))
 
 -- an array with these entries is packed
 pub array-packed : (f : ℕ → Hook) (hs : List Hook) → length hs ≤ functionsMax → ((e : ℕ) → e < functionsMax → f e ≡ getD hs e noHook) → arrayOf f ≡ packed hs
 array-packed f hs h same =
-    ext-getD 0 (arrayOf f) (packed hs) (table-length 0 48 (numberAt f) ∙ sym (packed-length hs h))
+    ext-getD 0 (arrayOf f) (packed hs) (table-length 0 48 (arrayNumber f) ∙ sym (packed-length hs h))
     (λ j l. let k : j < 48 = rw table-length at l in number j k)
   where
     number : (j : ℕ) → j < 48 → getD (arrayOf f) j 0 ≡ getD (packed hs) j 0
     number j k =
-        table-get 0 48 (numberAt f) j k
+        table-get 0 48 (arrayNumber f) j k
         ∙ rw (zero-add j, same (j / 3) (omega arith), ← packed-at hs (j / 3)) (number-here (packed hs) j)
 
 -- the entries are the hooks, then none
 list-entries : (n : ℕ) (hs : List Hook) (i : ℕ) (f : ℕ → Hook) → length hs ≤ n → ((j : ℕ) → j < n → f (i + j) ≡ getD hs j noHook)
-    → entriesFrom i n f ≡ hs ++ replicate (n - length hs) noHook
-unfolding entriesFrom
+    → hooksFrom i n f ≡ hs ++ replicate (n - length hs) noHook
+unfolding hooksFrom
 list-entries zero [] i f h same = refl
 list-entries zero (g ∷ hs) i f h same = absurd (omega arith)
 list-entries (suc n) [] i f h same =
@@ -75,7 +75,7 @@ list-entries (suc n) (g ∷ hs) i f h same =
     let a : suc n - suc (length hs) ≡ n - length hs = omega arith in
     rw (a, first) (ap (λ (l : List Hook). g ∷ l) (list-entries n hs (i + 1) f (omega arith) (λ j l. ap f (omega arith) ∙ same (suc j) (omega arith))))
 
-pub packed-entries : (hs : List Hook) → length hs ≤ functionsMax → entries (packed hs) ≡ hs ++ replicate (functionsMax - length hs) noHook
+pub packed-entries : (hs : List Hook) → length hs ≤ functionsMax → hooksOf (packed hs) ≡ hs ++ replicate (functionsMax - length hs) noHook
 packed-entries hs h = list-entries functionsMax hs 0 (hookAt (packed hs)) h (λ j l. packed-at hs (0 + j) ∙ rw (zero-add j))
 
 -- the chain of a line is the hooks of that line
@@ -84,16 +84,16 @@ unfolding chosen
 none-chosen t zero e = refl
 none-chosen t (suc n) e = rw e (none-chosen t n e)
 
-chosen-same : (t u : Hook → Bool) (hs : List Hook) → Every (λ h. t h ≡ u h) hs → chosen t hs ≡ chosen u hs
+chosen-same : (t u : Hook → Bool) (hs : List Hook) → EveryHook (λ h. t h ≡ u h) hs → chosen t hs ≡ chosen u hs
 unfolding chosen
 chosen-same t u [] e = refl
 chosen-same t u (h ∷ hs) e = rw (e .0, chosen-same t u hs (e .1))
 
-pub every-map : (P Q : Hook → Type 0) → ((h : Hook) → P h → Q h) → (hs : List Hook) → Every P hs → Every Q hs
+pub every-map : (P Q : Hook → Type 0) → ((h : Hook) → P h → Q h) → (hs : List Hook) → EveryHook P hs → EveryHook Q hs
 every-map P Q f [] a = tt
 every-map P Q f (h ∷ hs) a = (f h (a .0), every-map P Q f hs (a .1))
 
-pub packed-chain : (records : List ℕ) (line : ℕ) (hs : List Hook) → length hs ≤ functionsMax → Every (λ h. h .handle ≡ 0 → ⊥) hs
+pub packed-chain : (records : List ℕ) (line : ℕ) (hs : List Hook) → length hs ≤ functionsMax → EveryHook (λ h. h .handle ≡ 0 → ⊥) hs
     → chainOf records (packed hs) line ≡ chosen (λ h. eqb (lineOf records (h .handle)) line) hs
 packed-chain records line hs h real =
     let t = onLine records line in
@@ -104,12 +104,12 @@ packed-chain records line hs h real =
     (every-map (λ g. g .handle ≡ 0 → ⊥) (λ g. t g ≡ eqb (lineOf records (g .handle)) line) (λ g n. rw (ne-eqb (g .handle) 0 n)) hs real)
 
 -- a property of every hook holds of the e-th, and of what stands past the end if it holds there
-pub every-at : (P : Hook → Type 0) (hs : List Hook) (e : ℕ) → Every P hs → e < length hs → P (getD hs e noHook)
+pub every-at : (P : Hook → Type 0) (hs : List Hook) (e : ℕ) → EveryHook P hs → e < length hs → P (getD hs e noHook)
 every-at P [] e a h = absurd (omega arith)
 every-at P (g ∷ hs) zero a h = a .0
 every-at P (g ∷ hs) (suc e) a h = every-at P hs e (a .1) (omega arith)
 
-pub every-or-none : (P : Hook → Type 0) (hs : List Hook) (e : ℕ) → Every P hs → P noHook → P (getD hs e noHook)
+pub every-or-none : (P : Hook → Type 0) (hs : List Hook) (e : ℕ) → EveryHook P hs → P noHook → P (getD hs e noHook)
 every-or-none P [] e a n = n
 every-or-none P (g ∷ hs) zero a n = a .0
 every-or-none P (g ∷ hs) (suc e) a n = every-or-none P hs e (a .1) n

@@ -11,9 +11,9 @@ use borrow.Author.Tests.{eq-eqb, ne-eqb, le-leb, lt-leb, ltb-true, ltb-false, eq
 use Rattle.board.specs.Layout.{functionsMax}
 use Rattle.interrupt_array.specs.Hooks.{Hook, noHook, isHook, hookAt, lineOf, packed}
 use Rattle.interrupt_edit.specs.Changes.{afterHook, afterUnhook}
-use Rattle.interrupt_hook.specs.Chain.{upToLine, placeFor, entryOf, hooked, unhooked}
-use Rattle.interrupt_hook.specs.Meaning.{Every}
-use Rattle.interrupt_hook.proofs.Places.{past-is, first-is}
+use Rattle.interrupt_hook.specs.Chain.{upToLine, positionFor, positionOf, hooked, unhooked}
+use Rattle.interrupt_hook.specs.Meaning.{EveryHook}
+use Rattle.interrupt_hook.proofs.Positions.{past-is, first-is}
 use Rattle.interrupt_hook.proofs.Moves.{hook-before, hook-here, hook-after, unhook-before, unhook-after}
 use Rattle.interrupt_hook.proofs.Packed.{packed-at, array-packed, every-map, every-at, every-or-none, in-first, in-second}
 
@@ -30,10 +30,10 @@ up-to records line h p = rw (ne-eqb (h .handle) 0 (p .0)) (le-leb (lineOf record
 above : (records : List ℕ) (line : ℕ) (h : Hook) → Above records line h → upToLine records line h ≡ false
 above records line h p = rw (lt-leb (lineOf records (h .handle)) line p) (and-false (isHook h))
 
--- the place of a line is after the hooks on lines up to it
-pub packed-place : (records : List ℕ) (line : ℕ) (low high : List Hook) → length (low ++ high) ≤ functionsMax
-    → Every (UpTo records line) low → Every (Above records line) high → placeFor records (packed (low ++ high)) line ≡ length low
-packed-place records line low high room l h =
+-- the position of a line is after the hooks on lines up to it
+pub packed-position : (records : List ℕ) (line : ℕ) (low high : List Hook) → length (low ++ high) ≤ functionsMax
+    → EveryHook (UpTo records line) low → EveryHook (Above records line) high → positionFor records (packed (low ++ high)) line ≡ length low
+packed-position records line low high room l h =
     past-is (λ e. upToLine records line (hookAt (packed (low ++ high)) e)) functionsMax (length low)
     (record {
       room = omega (arith, length-append low high);
@@ -63,10 +63,10 @@ came-in low high new e = by (ltb e (length low)) (eqb e (length low)) refl refl
 
 -- a new hook goes between the hooks on lines up to its own and those on lines above
 pub packed-hook : (records : List ℕ) (low high : List Hook) (new : Hook) → length (low ++ high) < functionsMax
-    → Every (UpTo records (lineOf records (new .handle))) low → Every (Above records (lineOf records (new .handle))) high
+    → EveryHook (UpTo records (lineOf records (new .handle))) low → EveryHook (Above records (lineOf records (new .handle))) high
     → hooked records (packed (low ++ high)) new ≡ packed (low ++ new ∷ high)
 packed-hook records low high new room l h =
-    rw (packed-place records (lineOf records (new .handle)) low high (omega arith) l h)
+    rw (packed-position records (lineOf records (new .handle)) low high (omega arith) l h)
     (array-packed _ (low ++ new ∷ high) (omega (arith, length-append low high, length-append low (new ∷ high))) (λ e k. came-in low high new e))
 
 -- entries after the one between two lists goes out
@@ -85,8 +85,8 @@ went-out low high h e = by (ltb e (length low)) refl
         ∙ in-second low (h ∷ high) (e + 1) (omega arith)
         ∙ rw s (sym (ap (λ j. getD (low ++ high) j noHook) k ∙ getD-append-add low high (e - length low) noHook))
 
-pub packed-entry : (low high : List Hook) (h : Hook) → length (low ++ h ∷ high) ≤ functionsMax → Every (λ g. g .handle ≡ h .handle → ⊥) low
-    → entryOf (packed (low ++ h ∷ high)) (h .handle) ≡ length low
+pub packed-entry : (low high : List Hook) (h : Hook) → length (low ++ h ∷ high) ≤ functionsMax → EveryHook (λ g. g .handle ≡ h .handle → ⊥) low
+    → positionOf (packed (low ++ h ∷ high)) (h .handle) ≡ length low
 packed-entry low high h room other =
     first-is (λ e. eqb (hookAt (packed (low ++ h ∷ high)) e .handle) (h .handle)) 0 functionsMax (length low)
     (record {
@@ -100,7 +100,7 @@ packed-entry low high h room other =
     at-seam = packed-at (low ++ h ∷ high) (length low) ∙ getD-append-seam low h high noHook
 
 -- the first hook of a handle goes, the others close up
-pub packed-unhook : (low high : List Hook) (h : Hook) → length (low ++ h ∷ high) ≤ functionsMax → Every (λ g. g .handle ≡ h .handle → ⊥) low
+pub packed-unhook : (low high : List Hook) (h : Hook) → length (low ++ h ∷ high) ≤ functionsMax → EveryHook (λ g. g .handle ≡ h .handle → ⊥) low
     → unhooked (packed (low ++ h ∷ high)) (h .handle) ≡ packed (low ++ high)
 packed-unhook low high h room other =
     rw (packed-entry low high h room other)

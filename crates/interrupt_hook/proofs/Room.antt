@@ -9,7 +9,7 @@ use lib.ListN.{length}
 use borrow.Author.Tests.{eqb-true, eqb-false}
 use Rattle.numbers.proofs.Tests.{either-false}
 use Rattle.interrupt_array.specs.Hooks.{Hook, hook}
-use Rattle.interrupt_hook.specs.Meaning.{Every, isAmong, without}
+use Rattle.interrupt_hook.specs.Meaning.{EveryHook, isAmong, without}
 
 -- each handle at most once
 abbrev pub Once : List Hook → Type 0
@@ -52,7 +52,7 @@ without-once k (h ∷ hs) o =
     without-cases Once k h hs (λ e. o .1) (λ e. (without-among (h .handle) k hs (o .0), without-once k hs (o .1)))
 
 -- none of n + 1 is left once it is taken out
-not-among : (n : ℕ) (hs : List Hook) → isAmong (suc n) hs ≡ false → Every (Within (suc n)) hs → Every (Within n) hs
+not-among : (n : ℕ) (hs : List Hook) → isAmong (suc n) hs ≡ false → EveryHook (Within (suc n)) hs → EveryHook (Within n) hs
 unfolding isAmong
 not-among n [] e a = tt
 not-among n (h ∷ hs) e a =
@@ -60,23 +60,23 @@ not-among n (h ∷ hs) e a =
     let d : h .handle ≡ suc n → ⊥ = eqb-false (h .handle) (suc n) (s .0) in
     ((a .0 .0, omega (arith, a .0 .1)), not-among n hs (s .1) (a .1))
 
-without-within : (n : ℕ) (hs : List Hook) → Once hs → Every (Within (suc n)) hs → Every (Within n) (without (suc n) hs)
+without-within : (n : ℕ) (hs : List Hook) → Once hs → EveryHook (Within (suc n)) hs → EveryHook (Within n) (without (suc n) hs)
 unfolding without
 without-within n [] o a = tt
 without-within n (h ∷ hs) o a =
-    without-cases (Every (Within n)) (suc n) h hs
+    without-cases (EveryHook (Within n)) (suc n) h hs
     (λ e. not-among n hs (rw (eqb-true (h .handle) (suc n) e) at (o .0)) (a .1))
     (λ e.
     let d : h .handle ≡ suc n → ⊥ = eqb-false (h .handle) (suc n) e in
     ((a .0 .0, omega (arith, a .0 .1)), without-within n hs (o .1) (a .1)))
 
 -- hooks of n functions, each hooked once, are n at most
-pub once-few : (n : ℕ) (hs : List Hook) → Once hs → Every (Within n) hs → length hs ≤ n
+pub once-few : (n : ℕ) (hs : List Hook) → Once hs → EveryHook (Within n) hs → length hs ≤ n
 once-few zero [] o a = omega arith
 once-few zero (h ∷ hs) o a = absurd (omega (arith, a .0 .0, a .0 .1))
 once-few (suc n) hs o a =
     omega (arith, without-length (suc n) hs, once-few n (without (suc n) hs) (without-once (suc n) hs o) (without-within n hs o a))
 
 -- and where one of them is not hooked, fewer
-pub free-room : (n : ℕ) (hs : List Hook) (handle : ℕ) → Once hs → Every (Within n) hs → 0 < handle → handle ≤ n → isAmong handle hs ≡ false → length hs < n
+pub free-room : (n : ℕ) (hs : List Hook) (handle : ℕ) → Once hs → EveryHook (Within n) hs → 0 < handle → handle ≤ n → isAmong handle hs ≡ false → length hs < n
 free-room n hs handle o a l h e = once-few n (hook handle 0 0 ∷ hs) (e, o) ((l, h), a)

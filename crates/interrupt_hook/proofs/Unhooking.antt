@@ -10,16 +10,16 @@ use borrow.Author.Tests.{eq-eqb, eqb-true, ltb-true}
 use Rattle.board.specs.Handles.{isHandle}
 use Rattle.board.specs.Layout.{functionsMax, hookSize}
 use Rattle.board.specs.Statuses.{successful}
-use Rattle.interrupt_array.specs.Hooks.{Hook, hookAt, entriesFrom, chosen, onLine, chainOf}
-use Rattle.interrupt_hook.specs.Chain.{entryOf, isHooked, unhooked, changed, unhookChecks}
-use Rattle.interrupt_hook.specs.Meaning.{Every, without, GoesOut}
+use Rattle.interrupt_array.specs.Hooks.{Hook, hookAt, hooksFrom, chosen, onLine, chainOf}
+use Rattle.interrupt_hook.specs.Chain.{positionOf, isHooked, unhooked, hookOutcome, unhookChecks}
+use Rattle.interrupt_hook.specs.Meaning.{EveryHook, without, GoesOut}
 use Rattle.interrupt_hook.proofs.Entries.{chosen-append, chosen-in, chosen-out, chosen-last-out}
-use Rattle.interrupt_hook.proofs.Places.{First, first-from}
+use Rattle.interrupt_hook.proofs.Positions.{First, first-from}
 use Rattle.interrupt_hook.proofs.Moves.{around, unhooked-entries}
 use Rattle.interrupt_hook.proofs.Hooking.{none-on, no-success}
 
-every-entries : (P : Hook → Type 0) (i n : ℕ) (f : ℕ → Hook) → ((j : ℕ) → i ≤ j → j < i + n → P (f j)) → Every P (entriesFrom i n f)
-unfolding entriesFrom
+every-entries : (P : Hook → Type 0) (i n : ℕ) (f : ℕ → Hook) → ((j : ℕ) → i ≤ j → j < i + n → P (f j)) → EveryHook P (hooksFrom i n f)
+unfolding hooksFrom
 every-entries P i zero f h = tt
 every-entries P i (suc n) f h =
     (h i (omega arith) (omega arith), every-entries P (i + 1) n f (λ j l u. h j (omega arith) (omega arith)))
@@ -38,7 +38,7 @@ module _ (handle : ℕ) where
 
   module _ (t : Hook → Bool) where
     -- hooks of other handles before it stay
-    without-front : (a l : List Hook) → Every Other a → without handle (chosen t a ++ l) ≡ chosen t a ++ without handle l
+    without-front : (a l : List Hook) → EveryHook Other a → without handle (chosen t a ++ l) ≡ chosen t a ++ without handle l
     unfolding chosen
     without-front [] l o = refl
     without-front (h ∷ a) l o = by (t h) (without-front a l (o .1))
@@ -76,7 +76,7 @@ module _ (handle : ℕ) where
         by false false e p ih = chosen-out t h (without handle l) p ∙ ih
 
     -- a test of the handle alone; x has it and none before x; z passes no test
-    take-out : (a b : List Hook) (x z : Hook) → ((g h : Hook) → g .handle ≡ h .handle → t g ≡ t h) → Every Other a → x .handle ≡ handle → t z ≡ false
+    take-out : (a b : List Hook) (x z : Hook) → ((g h : Hook) → g .handle ≡ h .handle → t g ≡ t h) → EveryHook Other a → x .handle ≡ handle → t z ≡ false
         → chosen t (a ++ (b ++ z ∷ [])) ≡ without handle (chosen t (a ++ x ∷ b))
     take-out a b x z alike o e d =
         chosen-append t a (b ++ z ∷ [])
@@ -87,8 +87,8 @@ module _ (handle : ℕ) where
         by true p = rw (chosen-in t x b p) (sym (without-here x (chosen t b) (eq-eqb (x .handle) handle e)))
         by false p = rw (chosen-out t x b p) (sym (without-none b (λ h q. alike h x (eqb-true (h .handle) handle q ∙ sym e) ∙ p)))
 
-module _ (records hooks : List ℕ) (handle : ℕ) (size : length hooks ≡ functionsMax * hookSize) (there : entryOf hooks handle < functionsMax) where
-  abbrev found-first : First (λ e. eqb (hookAt hooks e .handle) handle) 0 functionsMax (entryOf hooks handle)
+module _ (records hooks : List ℕ) (handle : ℕ) (size : length hooks ≡ functionsMax * hookSize) (there : positionOf hooks handle < functionsMax) where
+  abbrev found-first : First (λ e. eqb (hookAt hooks e .handle) handle) 0 functionsMax (positionOf hooks handle)
   found-first = first-from (λ e. eqb (hookAt hooks e .handle) handle) 0 functionsMax
 
   -- past the last entry stand zeros
@@ -99,9 +99,9 @@ module _ (records hooks : List ℕ) (handle : ℕ) (size : length hooks ≡ func
   unhooked-out line =
       let t = onLine records line in
       let f = hookAt hooks in
-      let p = entryOf hooks handle in
+      let p = positionOf hooks handle in
       ap (chosen t) (unhooked-entries f p there)
-      ∙ take-out handle t (entriesFrom 0 p f) (entriesFrom (p + 1) (15 - p) f) (f p) (f functionsMax)
+      ∙ take-out handle t (hooksFrom 0 p f) (hooksFrom (p + 1) (15 - p) f) (f p) (f functionsMax)
       (λ g h e. rw e)
       (every-entries (Other handle) 0 p f (λ j l h. found-first .before j (omega arith) (omega arith)))
       (eqb-true (f p .handle) handle (found-first .here (omega arith)))
@@ -110,8 +110,8 @@ module _ (records hooks : List ℕ) (handle : ℕ) (size : length hooks ≡ func
 
 -- an unhook is accepted where its function is there and hooked
 accepted : (good hooked : Bool) (after before : List ℕ)
-    → unhookChecks good hooked (changed successful after) (λ s. changed s before) .status ≡ successful
-    → (hooked ≡ true) × (unhookChecks good hooked (changed successful after) (λ s. changed s before) .hooks ≡ after)
+    → unhookChecks good hooked (hookOutcome successful after) (λ s. hookOutcome s before) .status ≡ successful
+    → (hooked ≡ true) × (unhookChecks good hooked (hookOutcome successful after) (λ s. hookOutcome s before) .hooks ≡ after)
 accepted true true after before e = (refl, refl)
 accepted true false after before e = absurd (no-success 7 e)
 accepted false hooked after before e = absurd (no-success 8 e)
@@ -121,4 +121,4 @@ pub goes-out : GoesOut
 goes-out header records hooks handle line size s =
     let k = accepted (isHandle header handle) (isHooked hooks handle) (unhooked hooks handle) hooks s in
     ap (λ (l : List ℕ). chainOf records l line) (k .1)
-    ∙ unhooked-out records hooks handle size (ltb-true (entryOf hooks handle) functionsMax (k .0)) line
+    ∙ unhooked-out records hooks handle size (ltb-true (positionOf hooks handle) functionsMax (k .0)) line

@@ -10,12 +10,12 @@ use Rattle.board.specs.declared.status.Status.{Status}
 use Rattle.interrupt_array.specs.Hooks.{Hook, hook, isHook, hookAt, arrayOf, lineOf, pinOf, isRouted}
 use Rattle.interrupt_edit.specs.Changes.{afterHook, afterUnhook}
 
--- one past the last of the first n places at which a test holds, 0 where there is none
+-- one past the last of the first n positions at which a test holds, 0 where there is none
 unfoldable pub pastLast : (ℕ → Bool) → ℕ → ℕ
 pastLast t zero = 0
 pastLast t (suc n) = cond (t n) (suc n) (pastLast t n)
 
--- the first of n places from i on at which a test holds, the place after them where there is none
+-- the first of n positions from i on at which a test holds, the position after them where there is none
 unfoldable pub firstFrom : (ℕ → Bool) → ℕ → ℕ → ℕ
 firstFrom t i zero = i
 firstFrom t i (suc n) = cond (t i) i (firstFrom t (i + 1) n)
@@ -24,15 +24,15 @@ firstFrom t i (suc n) = cond (t i) i (firstFrom t (i + 1) n)
 abbrev pub upToLine : List ℕ → ℕ → Hook → Bool
 upToLine records line h = isHook h && leb (lineOf records (h .handle)) line
 
-abbrev pub placeFor : List ℕ → List ℕ → ℕ → ℕ
-placeFor records hooks line = pastLast (λ e. upToLine records line (hookAt hooks e)) functionsMax
+abbrev pub positionFor : List ℕ → List ℕ → ℕ → ℕ
+positionFor records hooks line = pastLast (λ e. upToLine records line (hookAt hooks e)) functionsMax
 
--- the first entry with a handle
-abbrev pub entryOf : List ℕ → ℕ → ℕ
-entryOf hooks handle = firstFrom (λ e. eqb (hookAt hooks e .handle) handle) 0 functionsMax
+-- the position of the first hook of a handle
+abbrev pub positionOf : List ℕ → ℕ → ℕ
+positionOf hooks handle = firstFrom (λ e. eqb (hookAt hooks e .handle) handle) 0 functionsMax
 
 abbrev pub isHooked : List ℕ → ℕ → Bool
-isHooked hooks handle = ltb (entryOf hooks handle) functionsMax
+isHooked hooks handle = ltb (positionOf hooks handle) functionsMax
 
 -- hook: -9; -8 pin 0 or line not 0..15; -6. On an altered board the array may be full, and gives -6 too
 abbrev pub isFree : List ℕ → ℕ → Bool
@@ -47,25 +47,25 @@ abbrev pub unhookChecks : {A : Type 0} → Bool → Bool → A → (Status → A
 unhookChecks good hooked accepted refused = cond good (cond hooked accepted (refused generalError)) (refused badHandle)
 
 -- a status, and the array that is left
-pub record Changed : Type 0 where
+pub record HookOutcome : Type 0 where
   pub status : Status
   pub hooks : List ℕ
 
-abbrev pub changed : Status → List ℕ → Changed
-changed status hooks = record { status = status; hooks = hooks }
+abbrev pub hookOutcome : Status → List ℕ → HookOutcome
+hookOutcome status hooks = record { status = status; hooks = hooks }
 
 -- the array with a hook put last on the line of its function, and without the hook of a handle
 abbrev pub hooked : List ℕ → List ℕ → Hook → List ℕ
-hooked records hooks new = arrayOf (afterHook (hookAt hooks) (placeFor records hooks (lineOf records (new .handle))) new)
+hooked records hooks new = arrayOf (afterHook (hookAt hooks) (positionFor records hooks (lineOf records (new .handle))) new)
 
 abbrev pub unhooked : List ℕ → ℕ → List ℕ
-unhooked hooks handle = arrayOf (afterUnhook (hookAt hooks) (entryOf hooks handle))
+unhooked hooks handle = arrayOf (afterUnhook (hookAt hooks) (positionOf hooks handle))
 
-abbrev pub hookInterrupt : List ℕ → List ℕ → List ℕ → ℕ → ℕ → ℕ → Changed
+abbrev pub hookInterrupt : List ℕ → List ℕ → List ℕ → ℕ → ℕ → ℕ → HookOutcome
 hookInterrupt header records hooks handle handler parameter =
     hookChecks (isHandle header handle) (isRouted (pinOf records handle) (lineOf records handle)) (isFree hooks handle)
-    (changed successful (hooked records hooks (hook handle handler parameter))) (λ s. changed s hooks)
+    (hookOutcome successful (hooked records hooks (hook handle handler parameter))) (λ s. hookOutcome s hooks)
 
-abbrev pub unhookInterrupt : List ℕ → List ℕ → ℕ → Changed
+abbrev pub unhookInterrupt : List ℕ → List ℕ → ℕ → HookOutcome
 unhookInterrupt header hooks handle =
-    unhookChecks (isHandle header handle) (isHooked hooks handle) (changed successful (unhooked hooks handle)) (λ s. changed s hooks)
+    unhookChecks (isHandle header handle) (isHooked hooks handle) (hookOutcome successful (unhooked hooks handle)) (λ s. hookOutcome s hooks)

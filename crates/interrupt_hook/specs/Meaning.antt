@@ -9,12 +9,12 @@ use lib.ListN.{length, replicate}
 use Rattle.board.specs.Layout.{functionsMax, hookSize}
 use Rattle.board.specs.Statuses.{successful}
 use Rattle.interrupt_array.specs.Hooks.{Hook, hook, lineOf, chosen, onLine, chainOf}
-use Rattle.interrupt_hook.specs.Chain.{Changed, hookInterrupt, unhookInterrupt}
+use Rattle.interrupt_hook.specs.Chain.{HookOutcome, hookInterrupt, unhookInterrupt}
 
 -- every hook of a list has a property
-abbrev pub Every : (Hook → Type 0) → List Hook → Type 0
-Every P [] = Unit {0}
-Every P (h ∷ hs) = P h × Every P hs
+abbrev pub EveryHook : (Hook → Type 0) → List Hook → Type 0
+EveryHook P [] = Unit {0}
+EveryHook P (h ∷ hs) = P h × EveryHook P hs
 
 -- an accepted hook goes last on its line, and every other chain stays
 abbrev pub GoesLast : Type 0
@@ -47,18 +47,18 @@ abbrev pub cleared : List ℕ
 cleared = replicate (functionsMax * hookSize) 0
 
 -- a hook or an unhook that is asked for, and what the call does
-pub data Asked : Type 0 where
-  hooking : Hook → Asked
-  unhooking : ℕ → Asked
+pub data HookCall : Type 0 where
+  hooking : Hook → HookCall
+  unhooking : ℕ → HookCall
 
-abbrev pub told : List ℕ → List ℕ → List ℕ → Asked → Changed
-told header records hooks (hooking h) = hookInterrupt header records hooks (h .handle) (h .handler) (h .parameter)
-told header records hooks (unhooking handle) = unhookInterrupt header hooks handle
+abbrev pub performed : List ℕ → List ℕ → List ℕ → HookCall → HookOutcome
+performed header records hooks (hooking h) = hookInterrupt header records hooks (h .handle) (h .handler) (h .parameter)
+performed header records hooks (unhooking handle) = unhookInterrupt header hooks handle
 
 -- the array after such calls, one after the other
-unfoldable pub arrayAfter : List ℕ → List ℕ → List ℕ → List Asked → List ℕ
+unfoldable pub arrayAfter : List ℕ → List ℕ → List ℕ → List HookCall → List ℕ
 arrayAfter header records hooks [] = hooks
-arrayAfter header records hooks (c ∷ cs) = arrayAfter header records (told header records hooks c .hooks) cs
+arrayAfter header records hooks (c ∷ cs) = arrayAfter header records (performed header records hooks c .hooks) cs
 
 -- the hooks that stand after them, of all lines, in hooking order: an accepted one goes last, and goes out when it is unhooked
 abbrev pub isDone : ℤ → Bool
@@ -66,18 +66,18 @@ isDone (pos zero) = true
 isDone (pos (suc n)) = false
 isDone (negsuc n) = false
 
-abbrev pub taken : Asked → List Hook → List Hook
+abbrev pub taken : HookCall → List Hook → List Hook
 taken (hooking h) hs = hs ++ h ∷ []
 taken (unhooking handle) hs = without handle hs
 
-unfoldable pub inOrder : List ℕ → List ℕ → List ℕ → List Asked → List Hook → List Hook
+unfoldable pub inOrder : List ℕ → List ℕ → List ℕ → List HookCall → List Hook → List Hook
 inOrder header records hooks [] hs = hs
 inOrder header records hooks (c ∷ cs) hs =
-    let t = told header records hooks c in
+    let t = performed header records hooks c in
     inOrder header records (t .hooks) cs (cond (isDone (t .status .0)) (taken c hs) hs)
 
 -- THE CHAIN OF A LINE, and so its listing, is the hooked functions of that line in hooking order, after any hooks and unhooks from the cleared array on
 abbrev pub HookingOrder : Type 0
 HookingOrder =
-    (header records : List ℕ) (cs : List Asked) (line : ℕ)
+    (header records : List ℕ) (cs : List HookCall) (line : ℕ)
     → chainOf records (arrayAfter header records cleared cs) line ≡ chosen (onLine records line) (inOrder header records cleared cs [])

@@ -1,6 +1,6 @@
 // Hooking and unhooking an interrupt.
-use crate::place::entry_of;
-use crate::place::place_for;
+use crate::position::position_for;
+use crate::position::position_of;
 use board::handle::is_handle;
 use board::layout::FUNCTIONS;
 use board::layout::Header;
@@ -13,14 +13,14 @@ use interrupt_array::hooks::line_of;
 use interrupt_edit::change::Change;
 use interrupt_edit::change::apply;
 ghost use mathlib.Core.Path.{_≡_};
-ghost use Rattle.interrupt_hook.specs.Chain.{isFree, changed, hookInterrupt, unhookInterrupt};
+ghost use Rattle.interrupt_hook.specs.Chain.{isFree, hookOutcome, hookInterrupt, unhookInterrupt};
 
 // Whether a function has no hook yet, and there is room for one more: there always is where each function has one hook at most.
 fn is_free(hooks: &Hooks, handle: u32) -> bool
     ensures { λ r. ⌜ r ≡ isFree (now (hooks .entry)) handle ⌝ }
 {
     let most = FUNCTIONS as u32;
-    let hooked = entry_of(hooks, handle) < most;
+    let hooked = position_of(hooks, handle) < most;
     !hooked & (handle_at(hooks, most - 1) == 0)
 }
 
@@ -33,7 +33,7 @@ pub fn hook_interrupt(
     handler: u32,
     parameter: u32,
 ) -> Status
-    ensures { λ r. ⌜ changed r (now (hooks .exit)) ≡ hookInterrupt (now (header .entry)) (now (records .entry)) (now (hooks .entry)) handle handler parameter ⌝ }
+    ensures { λ r. ⌜ hookOutcome r (now (hooks .exit)) ≡ hookInterrupt (now (header .entry)) (now (records .entry)) (now (hooks .entry)) handle handler parameter ⌝ }
 {
     if !is_handle(header, handle) {
         return Status::BAD_HANDLE;
@@ -46,9 +46,9 @@ pub fn hook_interrupt(
     if !free {
         return Status::SET_FAILED;
     }
-    let place = place_for(records, hooks, line_of(records, handle));
+    let position = position_for(records, hooks, line_of(records, handle));
     let change = Change::In {
-        place: place as usize,
+        position: position as usize,
         handle: handle,
         handler: handler,
         parameter: parameter,
@@ -59,17 +59,17 @@ pub fn hook_interrupt(
 
 // Takes a function's hook from its chain.
 pub fn unhook_interrupt(header: &Header, hooks: &mut Hooks, handle: u32) -> Status
-    ensures { λ r. ⌜ changed r (now (hooks .exit)) ≡ unhookInterrupt (now (header .entry)) (now (hooks .entry)) handle ⌝ }
+    ensures { λ r. ⌜ hookOutcome r (now (hooks .exit)) ≡ unhookInterrupt (now (header .entry)) (now (hooks .entry)) handle ⌝ }
 {
     if !is_handle(header, handle) {
         return Status::BAD_HANDLE;
     }
-    let place = entry_of(hooks, handle);
-    if place < FUNCTIONS as u32 {
+    let position = position_of(hooks, handle);
+    if position < FUNCTIONS as u32 {
         apply(
             hooks,
             Change::Out {
-                place: place as usize,
+                position: position as usize,
             },
         );
         return Status::SUCCESSFUL;

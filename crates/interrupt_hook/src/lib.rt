@@ -1,3 +1,3 @@
 // Interrupt chains.
 pub mod chain;
-mod place;
+mod position;

@@ -13,18 +13,18 @@ use Rattle.interrupt_list.specs.declared.listing.ChainListing.the-varian
 use Rattle.interrupt_array.specs.Hooks.{Hook, lastLine}
 
 -- the answer that hands back a hook
-abbrev pub found : Hook → ChainListing
-found h = Found (h .handle) (h .handler) (h .parameter)
+abbrev pub foundHook : Hook → ChainListing
+foundHook h = Found (h .handle) (h .handler) (h .parameter)
 
--- the hook at a place of a chain, from 0; past the end -4
-unfoldable pub listed : List Hook → ℕ → ChainListing
-listed [] place = Refused deviceNotFound
-listed (h ∷ hs) zero = found h
-listed (h ∷ hs) (suc place) = listed hs place
+-- the hook at an index of a chain, from 0; past the end -4
+unfoldable pub listedHook : List Hook → ℕ → ChainListing
+listedHook [] index = Refused deviceNotFound
+listedHook (h ∷ hs) zero = foundHook h
+listedHook (h ∷ hs) (suc index) = listedHook hs index
 
 -- -8 line above 15; -4
 abbrev pub chainListing : List Hook → ℕ → ℕ → ChainListing
-chainListing chain line place = cond (ltb lastLine line) (Refused generalError) (listed chain place)
+chainListing chain line index = cond (ltb lastLine line) (Refused generalError) (listedHook chain index)
 
 -- the number of an answer, and its values: handle, handler, parameter
 abbrev pub chainNumberOf : ChainListing → ℤ
@@ -35,25 +35,25 @@ abbrev pub chainValuesOf : ChainListing → List ℕ
 chainValuesOf (Found handle handler parameter) = handle ∷ handler ∷ parameter ∷ []
 chainValuesOf (Refused status) = replicate hookSize 0
 
--- document 01's number and values for a place of a line's chain: zeros where refused
-unfoldable pub placeNumber : List Hook → ℕ → ℤ
-placeNumber [] place = deviceNotFound .0
-placeNumber (h ∷ hs) zero = successful .0
-placeNumber (h ∷ hs) (suc place) = placeNumber hs place
+-- document 01's number and values for an index of a line's chain: zeros where refused
+unfoldable pub hookListedNumber : List Hook → ℕ → ℤ
+hookListedNumber [] index = deviceNotFound .0
+hookListedNumber (h ∷ hs) zero = successful .0
+hookListedNumber (h ∷ hs) (suc index) = hookListedNumber hs index
 
-unfoldable pub placeValues : List Hook → ℕ → List ℕ
-placeValues [] place = replicate hookSize 0
-placeValues (h ∷ hs) zero = h .handle ∷ h .handler ∷ h .parameter ∷ []
-placeValues (h ∷ hs) (suc place) = placeValues hs place
+unfoldable pub hookListedValues : List Hook → ℕ → List ℕ
+hookListedValues [] index = replicate hookSize 0
+hookListedValues (h ∷ hs) zero = h .handle ∷ h .handler ∷ h .parameter ∷ []
+hookListedValues (h ∷ hs) (suc index) = hookListedValues hs index
 
 abbrev pub chainNumber : List Hook → ℕ → ℕ → ℤ
-chainNumber chain line place = cond (ltb lastLine line) (generalError .0) (placeNumber chain place)
+chainNumber chain line index = cond (ltb lastLine line) (generalError .0) (hookListedNumber chain index)
 
 abbrev pub chainValues : List Hook → ℕ → ℕ → List ℕ
-chainValues chain line place = cond (ltb lastLine line) (replicate hookSize 0) (placeValues chain place)
+chainValues chain line index = cond (ltb lastLine line) (replicate hookSize 0) (hookListedValues chain index)
 
--- an answer is that for a place of a line's chain, and has its number and values
-pub record ListsChain (chain : List Hook) (line place : ℕ) (r : ChainListing) : Type 0 where
-  pub answer : r ≡ chainListing chain line place
-  pub number : chainNumberOf r ≡ chainNumber chain line place
-  pub values : chainValuesOf r ≡ chainValues chain line place
+-- an answer is that for an index of a line's chain, and has its number and values
+pub record ListsChain (chain : List Hook) (line index : ℕ) (r : ChainListing) : Type 0 where
+  pub answer : r ≡ chainListing chain line index
+  pub number : chainNumberOf r ≡ chainNumber chain line index
+  pub values : chainValuesOf r ≡ chainValues chain line index

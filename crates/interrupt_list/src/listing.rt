@@ -10,9 +10,9 @@ use interrupt_array::hooks::is_on_line;
 use interrupt_array::hooks::parameter_at;
 ghost use mathlib.Core.Path.{_≡_};
 ghost use Rattle.interrupt_array.specs.Hooks.{hookAt, chainOf};
-ghost use Rattle.interrupt_list.specs.Listing.{found, listed, ListsChain};
+ghost use Rattle.interrupt_list.specs.Listing.{foundHook, listedHook, ListsChain};
 
-// The hook at a place of a chain, or the refusal.
+// The hook at an index of a chain, or the refusal.
 pub enum ChainListing {
     Found {
         handle: u32,
@@ -24,7 +24,7 @@ pub enum ChainListing {
 
 // An entry as an answer.
 fn found(hooks: &Hooks, e: u32) -> ChainListing
-    ensures { λ r. ⌜ r ≡ found (hookAt (now (hooks .entry)) e) ⌝ }
+    ensures { λ r. ⌜ r ≡ foundHook (hookAt (now (hooks .entry)) e) ⌝ }
 {
     ChainListing::Found {
         handle: handle_at(hooks, e),
@@ -34,11 +34,11 @@ fn found(hooks: &Hooks, e: u32) -> ChainListing
 }
 
 // The hook with so many hooks of its line before it.
-fn listed(records: &Records, hooks: &Hooks, line: u32, place: u32) -> ChainListing
-    ensures { λ r. ⌜ r ≡ listed (chainOf (now (records .entry)) (now (hooks .entry)) line) place ⌝ }
+fn listed_hook(records: &Records, hooks: &Hooks, line: u32, index: u32) -> ChainListing
+    ensures { λ r. ⌜ r ≡ listedHook (chainOf (now (records .entry)) (now (hooks .entry)) line) index ⌝ }
 {
     let most = FUNCTIONS as u32;
-    let mut before = place;
+    let mut before = index;
     let mut e = 0;
     while e < most {
         if is_on_line(records, hooks, e, line) {
@@ -54,12 +54,12 @@ fn listed(records: &Records, hooks: &Hooks, line: u32, place: u32) -> ChainListi
     ChainListing::Refused(Status::DEVICE_NOT_FOUND)
 }
 
-// The hook at a place of a line's chain, from 0.
-pub fn list_chain(records: &Records, hooks: &Hooks, line: u32, place: u32) -> ChainListing
-    ensures { λ r. ⌜ ListsChain (chainOf (now (records .entry)) (now (hooks .entry)) line) line place r ⌝ }
+// The hook at an index of a line's chain, from 0.
+pub fn list_chain(records: &Records, hooks: &Hooks, line: u32, index: u32) -> ChainListing
+    ensures { λ r. ⌜ ListsChain (chainOf (now (records .entry)) (now (hooks .entry)) line) line index r ⌝ }
 {
     if LAST_LINE < line {
         return ChainListing::Refused(Status::GENERAL_ERROR);
     }
-    listed(records, hooks, line, place)
+    listed_hook(records, hooks, line, index)
 }

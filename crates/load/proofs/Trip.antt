@@ -20,8 +20,8 @@ use Rattle.image_refusals.specs.Refusals.{accepted, isAccepted}
 use Rattle.image_refusals.specs.Steps.{cellsVerdict}
 use Rattle.image_check.specs.Check.{factsOf, checked}
 use Rattle.reset.specs.Reset.{restarted}
-use Rattle.load.specs.Load.{Loaded, loaded, load, padded, installed}
-use Rattle.image_writer.specs.Write.{Written, write, written}
+use Rattle.load.specs.Load.{LoadOutcome, loadOutcome, load, padded, installed}
+use Rattle.image_writer.specs.Write.{WriterOutcome, writeImage, writerOutcome}
 use Rattle.load.specs.Meaning.{rewritten, RoundTrip, WrittenBack, ImageAlone}
 use Rattle.image_refusals.specs.declared.verdict.Verdict.{Verdict}
 use Rattle.image_writer.proofs.Lists.{trailer-length}
@@ -105,10 +105,10 @@ accepted-again image other room k w =
     record { short = omega (arith, w .size, k .fine .few); fine = fine-again image other room (k .fine) w }
 
 -- a load as a function of its verdict, and of the count and the records of its image
-made : Parts → Verdict → ℕ → List ℕ → Loaded
+made : Parts → Verdict → ℕ → List ℕ → LoadOutcome
 made q v n r =
     cond (isAccepted v)
-    (loaded v (restarted (headerOf n) (padded r) (offsetsOf (exponent (padded r))) (q .cells))) (loaded v q)
+    (loadOutcome v (restarted (headerOf n) (padded r) (offsetsOf (exponent (padded r))) (q .cells))) (loadOutcome v q)
 
 load-made : (q : Parts) (image : List ℕ) → load q image ≡ made q (checked image (length (q .cells))) (countOf image) (recordsOf image)
 unfolding load made
@@ -130,20 +130,20 @@ load-verdict : (q : Parts) (image : List ℕ) → load q image .verdict ≡ chec
 unfolding load
 load-verdict q image = both (isAccepted (checked image (length (q .cells)))) (checked image (length (q .cells))) (installed image (q .cells)) q
   where
-    both : (t : Bool) (v : Verdict) (a b : Parts) → cond t (loaded v a) (loaded v b) .verdict ≡ v
+    both : (t : Bool) (v : Verdict) (a b : Parts) → cond t (loadOutcome v a) (loadOutcome v b) .verdict ≡ v
     both true v a b = refl
     both false v a b = refl
 
 load-accepted : (p : Parts) (image : List ℕ) → load p image .verdict ≡ accepted → isAccepted (checked image (length (p .cells))) ≡ true
 load-accepted p image e = ap isAccepted (sym (load-verdict p image) ∙ e)
 
-load-whole : (p : Parts) (image : List ℕ) → load p image .verdict ≡ accepted → load p image ≡ loaded accepted (installed image (p .cells))
+load-whole : (p : Parts) (image : List ℕ) → load p image .verdict ≡ accepted → load p image ≡ loadOutcome accepted (installed image (p .cells))
 unfolding load
 load-whole p image e =
     rw (load-accepted p image e, sym (load-verdict p image) ∙ e)
 
 load-parts : (p : Parts) (image : List ℕ) → load p image .verdict ≡ accepted → load p image .parts ≡ installed image (p .cells)
-load-parts p image e = ap (λ (w : Loaded). w .parts) (load-whole p image e)
+load-parts p image e = ap (λ (w : LoadOutcome). w .parts) (load-whole p image e)
 
 -- THEOREM: what else stood in the lent parts plays no role
 pub image-alone : ImageAlone
@@ -161,21 +161,21 @@ installed-records image cells = refl
 
 -- the writer's answer of n loaded records, where the output has just the room
 writes : (n : ℕ) (r out : List ℕ) → 0 < n → n ≤ functionsMax → length r ≡ imageRecord * n → length out ≡ imageSize n
-    → write (headerOf n) (padded r) out ≡ written 0 (r ++ trailer n (sum r))
-unfolding write
+    → writeImage (headerOf n) (padded r) out ≡ writerOutcome 0 (r ++ trailer n (sum r))
+unfolding writeImage
 writes n r out some few long room =
     let c : functionCount (headerOf n) ≡ n = omega arith in
     let t : take (recordSize * n) (padded r) ≡ r = take-at r _ (recordSize * n) long in
     let d : drop (imageSize n) out ≡ [] = drop-of-length-le out {i = imageSize n} (omega arith) in
     rw (c, le-ltb (length out) (imageSize n) (omega arith), ne-eqb n 0 (omega arith), t, d)
-    (ap (written 0) (append-nil (r ++ trailer n (sum r))))
+    (ap (writerOutcome 0) (append-nil (r ++ trailer n (sum r))))
 
 -- an accepted image, loaded and written
 again : List ℕ → List ℕ
 again image = recordsOf image ++ trailer (countOf image) (sum (recordsOf image))
 
 rewritten-is : (p : Parts) (image out : List ℕ) → load p image .verdict ≡ accepted → length out ≡ imageSize (countOf image)
-    → rewritten p image out ≡ written 0 (again image)
+    → rewritten p image out ≡ writerOutcome 0 (again image)
 unfolding again
 rewritten-is p image out e room =
     let k = accepted-image image (length (p .cells)) (load-accepted p image e) in
@@ -195,8 +195,8 @@ round-trip p image out e room =
     let k = accepted-image image cells (load-accepted p image e) in
     let s = again-says image cells k in
     record {
-      number = ap (λ (x : Written). x .number) w;
-      loads = λ q. ap (λ (x : Written). load q (x .out)) w
+      number = ap (λ (x : WriterOutcome). x .number) w;
+      loads = λ q. ap (λ (x : WriterOutcome). load q (x .out)) w
           ∙ loads-alike q image (again image) cells k (accepted-again image (again image) cells k s) (s .count) (s .records);
     }
 
@@ -250,4 +250,4 @@ again-same image room k size small =
 pub written-back : WrittenBack
 written-back p image out e size small room =
     let k = accepted-image image (length (p .cells)) (load-accepted p image e) in
-    ap (λ (x : Written). x .out) (rewritten-is p image out e (room ∙ size)) ∙ again-same image (length (p .cells)) k size small
+    ap (λ (x : WriterOutcome). x .out) (rewritten-is p image out e (room ∙ size)) ∙ again-same image (length (p .cells)) k size small

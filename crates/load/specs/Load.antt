@@ -10,7 +10,7 @@ use Rattle.board.specs.Layout.{functionsMax, recordSize, exponent}
 use Rattle.cell_layout.specs.Cells.{offsetsOf}
 use Rattle.reset.specs.Reset.{restarted}
 use Rattle.image_layout.specs.Image.{countOf, recordsOf}
-use Rattle.image_check.specs.Check.{judged, checked}
+use Rattle.image_check.specs.Check.{checkedAnyLength, checked}
 use Rattle.image_refusals.specs.Refusals.{isAccepted}
 use Rattle.image_refusals.specs.declared.verdict.Verdict.{Verdict}
 
@@ -23,21 +23,21 @@ abbrev pub installed : List ℕ → List ℕ → Parts
 installed image cells =
     restarted (headerOf (countOf image)) (padded (recordsOf image)) (offsetsOf (exponent (padded (recordsOf image)))) cells
 
-pub record Loaded : Type 0 where
+pub record LoadOutcome : Type 0 where
   pub verdict : Verdict
   pub parts : Parts
 
-abbrev pub loaded : Verdict → Parts → Loaded
-loaded v p = record { verdict = v; parts = p }
+abbrev pub loadOutcome : Verdict → Parts → LoadOutcome
+loadOutcome v p = record { verdict = v; parts = p }
 
 -- the parts of an image where the verdict accepts it, else as they were
-abbrev pub takenIn : Verdict → Parts → List ℕ → Loaded
-takenIn v p image = cond (isAccepted v) (loaded v (installed image (p .cells))) (loaded v p)
+abbrev pub takenIn : Verdict → Parts → List ℕ → LoadOutcome
+takenIn v p image = cond (isAccepted v) (loadOutcome v (installed image (p .cells))) (loadOutcome v p)
 
 -- a refused load leaves everything as it was
-unfoldable pub load : Parts → List ℕ → Loaded
+unfoldable pub load : Parts → List ℕ → LoadOutcome
 load p image = takenIn (checked image (length (p .cells))) p image
 
 -- a load without the upper length, for an image that comes in portions
-unfoldable pub loadJudged : Parts → List ℕ → Loaded
-loadJudged p image = takenIn (judged image (length (p .cells))) p image
+unfoldable pub loadAnyLength : Parts → List ℕ → LoadOutcome
+loadAnyLength p image = takenIn (checkedAnyLength image (length (p .cells))) p image

@@ -7,12 +7,12 @@ use Rattle.numbers.specs.Numbers.{byteAt}
 use Rattle.board.specs.Parts.{Parts}
 use Rattle.image_layout.specs.Image.{imageSize, countOf}
 use Rattle.image_refusals.specs.Refusals.{accepted}
-use Rattle.image_writer.specs.Write.{Written, write}
+use Rattle.image_writer.specs.Write.{WriterOutcome, writeImage}
 use Rattle.load.specs.Load.{load}
 
 -- what the writer leaves of a board that was loaded from an image
-abbrev pub rewritten : Parts → List ℕ → List ℕ → Written
-rewritten p image out = write (load p image .parts .header) (load p image .parts .records) out
+abbrev pub rewritten : Parts → List ℕ → List ℕ → WriterOutcome
+rewritten p image out = writeImage (load p image .parts .header) (load p image .parts .records) out
 
 -- a loaded board is written, and that image loads as the first one does: on every board the same verdict and the same parts
 pub record SameBoard (p : Parts) (image out : List ℕ) : Type 0 where

@@ -7,21 +7,21 @@ use board::layout::Records;
 use board::layout::Registers;
 use board::layout::Used;
 use board::layout::Windows;
+use image_check::check::check_any_length;
 use image_check::check::check_image;
-use image_check::check::judge;
 use image_refusals::verdict::Verdict;
 use image_refusals::verdict::is_accepted;
-use reset::reset::reset;
+use reset::reset;
 ghost use mathlib.Core.Path.{_≡_};
 ghost use mathlib.Core.Bool.{true};
 ghost use lib.ListN.{length};
 ghost use Rattle.board.specs.Parts.{parts};
 ghost use Rattle.image_refusals.specs.Refusals.{isAccepted};
-ghost use Rattle.image_check.specs.Check.{judged};
-ghost use Rattle.load.specs.Load.{loaded, takenIn, load, loadJudged};
+ghost use Rattle.image_check.specs.Check.{checkedAnyLength};
+ghost use Rattle.load.specs.Load.{loadOutcome, takenIn, load, loadAnyLength};
 
 // The board of an image that a verdict accepts; else everything stays as it was. It is not public: of a verdict that the image did not earn it would have
-// to try the image again, or its contract to say what becomes of records that do not fit. Calls from outside come by `load` or `load_judged`.
+// to try the image again, or its contract to say what becomes of records that do not fit. Calls from outside come by `load` or `load_any_length`.
 fn take_in(
     verdict: Verdict,
     image: &[u8],
@@ -34,8 +34,8 @@ fn take_in(
     used: &mut Used,
     cells: &mut [u8],
 ) -> Verdict
-    requires { ⌜ (isAccepted verdict ≡ true → isAccepted (judged (now image) (length (now cells))) ≡ true) ⌝ }
-    ensures { λ r. ⌜ loaded r (parts (now (header .exit)) (now (records .exit)) (now (registers .exit)) (now (windows .exit)) (now (offsets .exit)) (now (hooks .exit)) (now (used .exit)) (now (cells .exit))) ≡ takenIn verdict (parts (now (header .entry)) (now (records .entry)) (now (registers .entry)) (now (windows .entry)) (now (offsets .entry)) (now (hooks .entry)) (now (used .entry)) (now (cells .entry))) (now (image .entry)) ⌝ }
+    requires { ⌜ (isAccepted verdict ≡ true → isAccepted (checkedAnyLength (now image) (length (now cells))) ≡ true) ⌝ }
+    ensures { λ r. ⌜ loadOutcome r (parts (now (header .exit)) (now (records .exit)) (now (registers .exit)) (now (windows .exit)) (now (offsets .exit)) (now (hooks .exit)) (now (used .exit)) (now (cells .exit))) ≡ takenIn verdict (parts (now (header .entry)) (now (records .entry)) (now (registers .entry)) (now (windows .entry)) (now (offsets .entry)) (now (hooks .entry)) (now (used .entry)) (now (cells .entry))) (now (image .entry)) ⌝ }
 {
     if !is_accepted(verdict) {
         return verdict;
@@ -67,7 +67,7 @@ pub fn load(
     used: &mut Used,
     cells: &mut [u8],
 ) -> Verdict
-    ensures { λ r. ⌜ loaded r (parts (now (header .exit)) (now (records .exit)) (now (registers .exit)) (now (windows .exit)) (now (offsets .exit)) (now (hooks .exit)) (now (used .exit)) (now (cells .exit))) ≡ load (parts (now (header .entry)) (now (records .entry)) (now (registers .entry)) (now (windows .entry)) (now (offsets .entry)) (now (hooks .entry)) (now (used .entry)) (now (cells .entry))) (now (image .entry)) ⌝ }
+    ensures { λ r. ⌜ loadOutcome r (parts (now (header .exit)) (now (records .exit)) (now (registers .exit)) (now (windows .exit)) (now (offsets .exit)) (now (hooks .exit)) (now (used .exit)) (now (cells .exit))) ≡ load (parts (now (header .entry)) (now (records .entry)) (now (registers .entry)) (now (windows .entry)) (now (offsets .entry)) (now (hooks .entry)) (now (used .entry)) (now (cells .entry))) (now (image .entry)) ⌝ }
 {
     let verdict = check_image(image, cells.len());
     take_in(
@@ -85,7 +85,7 @@ pub fn load(
 }
 
 // The same of an image that may be longer than one that is handed over at once.
-pub fn load_judged(
+pub fn load_any_length(
     image: &[u8],
     header: &mut Header,
     records: &mut Records,
@@ -96,9 +96,9 @@ pub fn load_judged(
     used: &mut Used,
     cells: &mut [u8],
 ) -> Verdict
-    ensures { λ r. ⌜ loaded r (parts (now (header .exit)) (now (records .exit)) (now (registers .exit)) (now (windows .exit)) (now (offsets .exit)) (now (hooks .exit)) (now (used .exit)) (now (cells .exit))) ≡ loadJudged (parts (now (header .entry)) (now (records .entry)) (now (registers .entry)) (now (windows .entry)) (now (offsets .entry)) (now (hooks .entry)) (now (used .entry)) (now (cells .entry))) (now (image .entry)) ⌝ }
+    ensures { λ r. ⌜ loadOutcome r (parts (now (header .exit)) (now (records .exit)) (now (registers .exit)) (now (windows .exit)) (now (offsets .exit)) (now (hooks .exit)) (now (used .exit)) (now (cells .exit))) ≡ loadAnyLength (parts (now (header .entry)) (now (records .entry)) (now (registers .entry)) (now (windows .entry)) (now (offsets .entry)) (now (hooks .entry)) (now (used .entry)) (now (cells .entry))) (now (image .entry)) ⌝ }
 {
-    let verdict = judge(image, cells.len());
+    let verdict = check_any_length(image, cells.len());
     take_in(
         verdict,
         image,

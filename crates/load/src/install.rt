@@ -5,7 +5,7 @@ use board::layout::Header;
 use board::layout::RECORD;
 use board::layout::Records;
 use bytes::copy;
-use cell_layout::cells::place_cells;
+use cell_layout::cells::lay_out_cells;
 use image_layout::layout::records_range;
 use image_layout::trailer::trailer_of;
 ghost use mathlib.Core.Path.{_≡_};
@@ -40,5 +40,5 @@ pub(crate) fn install(
     let count = trailer_of(image).count;
     *header = [count, 0, 0, 0];
     copy_records(image, count, records);
-    place_cells(records, offsets);
+    lay_out_cells(records, offsets);
 }

@@ -9,7 +9,7 @@ use Rattle.numbers.specs.Tables.{table}
 use Rattle.numbers.specs.declared.number.Width.{Width}
 use Rattle.numbers.specs.declared.number.Width.the-variants.{Byte, Word, Long}
 
--- the byte of a lent slice at a place, 0 past its end
+-- the byte of a lent slice at a position, 0 past its end
 abbrev pub byteAt : List ℕ → ℕ → ℕ
 byteAt l i = getD l i 0
 
@@ -22,7 +22,7 @@ bytes Long = 4
 abbrev pub isMultiple : ℕ → ℕ → Bool
 isMultiple n w = eqb (n % w) 0
 
--- the number of the w bytes of f from a place, least byte first
+-- the number of the w bytes of f from a position, least byte first
 unfoldable pub little : ℕ → (ℕ → ℕ) → ℕ → ℕ
 little zero f at = 0
 little (suc w) f at = f at % 256 + 256 * little w f (at + 1)

@@ -59,14 +59,14 @@ pub fn is_multiple_by_shift(n: u32, width: Width) -> bool
     n % bytes_by_shift(width) == 0
 }
 
-// The byte at a place, 0 past the end.
+// The byte at a position, 0 past the end.
 pub fn byte_at(s: &[u8], at: usize) -> u8
     ensures { λ r. ⌜ r ≡ byteAt (now (s .entry)) at ⌝ }
 {
     if at < s.len() { s[at] } else { 0 }
 }
 
-// Stores a byte at a place; past the end nothing is stored.
+// Stores a byte at a position; past the end nothing is stored.
 pub fn put_byte(s: &mut [u8], at: usize, b: u8)
     ensures { λ _. ⌜ now (s .exit) ≡ set (now (s .entry)) at b ⌝ }
 {
@@ -82,7 +82,7 @@ pub fn wide(b: u8) -> u32
     b as u32
 }
 
-// The byte i places after a place, 0 past the end.
+// The byte i after a position, 0 past the end.
 fn byte_after(s: &[u8], at: usize, i: u8) -> u8
     ensures { λ r. ⌜ r ≡ byteAt (now (s .entry)) (at + i) ⌝ }
 {
@@ -99,7 +99,7 @@ fn number(a: u8, b: u8, c: u8, d: u8) -> u32
     wide(a) + 256 * wide(b) + 65536 * wide(c) + 16777216 * wide(d)
 }
 
-// The number at a place, least byte first.
+// The number at a position, least byte first.
 pub fn little_at(s: &[u8], at: usize, width: Width) -> u32
     ensures { λ r. ⌜ r ≡ little (bytes width) (byteAt (now (s .entry))) at ⌝ }
 {
@@ -131,14 +131,14 @@ pub fn reversed(v: u32, width: Width) -> u32
     }
 }
 
-// The number at a place, highest byte first.
+// The number at a position, highest byte first.
 pub fn big_at(s: &[u8], at: usize, width: Width) -> u32
     ensures { λ r. ⌜ r ≡ big (bytes width) (byteAt (now (s .entry))) at ⌝ }
 {
     reversed(little_at(s, at, width), width)
 }
 
-// Stores the bytes of a number at a place, highest first; past the end nothing is stored.
+// Stores the bytes of a number at a position, highest first; past the end nothing is stored.
 pub fn put_big(s: &mut [u8], at: usize, width: Width, value: u32)
     ensures { λ _. ⌜ now (s .exit) ≡ sets (now (s .entry)) at (bigBytes (bytes width) value) ⌝ }
 {
@@ -155,7 +155,7 @@ pub fn put_big(s: &mut [u8], at: usize, width: Width, value: u32)
     }
 }
 
-// The number at a place of a lent array, 0 past the end.
+// The number at a position of a lent array, 0 past the end.
 pub fn u32_at(s: &[u32], at: usize) -> u32
     ensures { λ r. ⌜ r ≡ getD (now (s .entry)) at 0 ⌝ }
 {

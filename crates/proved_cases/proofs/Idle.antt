@@ -18,55 +18,55 @@ use Rattle.image_record.specs.Record.{recordOk}
 use Rattle.cell_layout.specs.Cells.{cellsBefore}
 use Rattle.image_layout.specs.Image.{sum}
 use Rattle.image_refusals.specs.Refusals.{firstBad, firstRefusal}
-use Rattle.reference.specs.Reference.{split, verdict, referenceStep, referenceQueried}
-use Rattle.reference.specs.Run.{Heard}
-use Rattle.proved_cases.specs.B1.{stored, b1}
+use Rattle.reference.specs.Reference.{split, imageVerdict, referenceStep, referenceQueried}
+use Rattle.reference.specs.Run.{Response}
+use Rattle.proved_cases.specs.B1.{recordBytes, b1}
 use Rattle.proved_cases.specs.Cases.{Holds, b1List, p1, p2, p6, p10, p11}
-use Rattle.proved_cases.specs.Idle.{kindOf, following, bus, Fails, IdleBuses, refusesEverything, findsHandle1, writesUpTo, lists}
+use Rattle.proved_cases.specs.Idle.{kindOf, ruledRun, busUnder, Fails, IdleBuses, refusesEverything, findsHandle1, writesUpTo, lists}
 
--- the number, and a value, of the answer at a place
-abbrev numberAt : ℕ → List Heard → ℤ
+-- the number, and a value, of the answer at a position
+abbrev numberAt : ℕ → List Response → ℤ
 numberAt i [] = pos 0
 numberAt zero (h ∷ hs) = h .answer .number
 numberAt (suc i) (h ∷ hs) = numberAt i hs
 
-abbrev valueAt : ℕ → ℕ → List Heard → ℕ
+abbrev valueAt : ℕ → ℕ → List Response → ℕ
 valueAt i j [] = 0
 valueAt zero j (h ∷ hs) = getD (h .answer .values) j 0
 valueAt (suc i) j (h ∷ hs) = valueAt i j hs
 
 refuses-p1 : Fails refusesEverything p1
-unfolding following kindOf
+unfolding ruledRun kindOf
 refuses-p1 e = pos-ne-negsuc 2 3 (sym (ap (numberAt 1) e))
 
 refuses-p10 : Fails refusesEverything p10
-unfolding following kindOf
+unfolding ruledRun kindOf
 refuses-p10 e = pos-ne-negsuc 0 8 (sym (ap (numberAt 1) e))
 
 finds-p1 : Fails findsHandle1 p1
-unfolding following kindOf
+unfolding ruledRun kindOf
 finds-p1 e = absurd (omega (arith, ap (λ hs. natAbs (numberAt 1 hs)) e))
 
 finds-p2 : Fails findsHandle1 p2
-unfolding following kindOf
+unfolding ruledRun kindOf
 finds-p2 e = pos-ne-negsuc 1 3 (ap (numberAt 1) e)
 
 nothing-written : Fails (writesUpTo 0) p6
-unfolding following kindOf stored b1 little big tableFrom windowAt gather openWindows put putAll listOf listedNumber listedValues target entryOk recordOk cellsBefore sum firstBad firstRefusal split verdict referenceStep referenceQueried
+unfolding ruledRun kindOf recordBytes b1 little big tableFrom windowAt gather openWindows put putAll listOf listedNumber listedValues target entryOk recordOk cellsBefore sum firstBad firstRefusal split imageVerdict referenceStep referenceQueried
 nothing-written e = absurd (omega (arith, ap (valueAt 2 0) e))
 
-works-once : Holds (bus (writesUpTo 1)) p6
-unfolding following kindOf stored b1 little big tableFrom windowAt gather openWindows put putAll listOf listedNumber listedValues target entryOk recordOk cellsBefore sum firstBad firstRefusal split verdict referenceStep referenceQueried
+works-once : Holds (busUnder (writesUpTo 1)) p6
+unfolding ruledRun kindOf recordBytes b1 little big tableFrom windowAt gather openWindows put putAll listOf listedNumber listedValues target entryOk recordOk cellsBefore sum firstBad firstRefusal split imageVerdict referenceStep referenceQueried
 works-once = refl
 
 -- after the second write the first window is still contested
 stands-still : Fails (writesUpTo 1) p11
-unfolding following kindOf stored b1 little big tableFrom windowAt gather openWindows put putAll listOf listedNumber listedValues target entryOk recordOk cellsBefore sum firstBad firstRefusal split verdict referenceStep referenceQueried
+unfolding ruledRun kindOf recordBytes b1 little big tableFrom windowAt gather openWindows put putAll listOf listedNumber listedValues target entryOk recordOk cellsBefore sum firstBad firstRefusal split imageVerdict referenceStep referenceQueried
 stands-still e = absurd (omega (arith, ap (valueAt 7 5) e))
 
 -- with fewer than three windows the third is missing, with more there is a fourth
 made-up : (m : ℕ) → (m ≡ 3 → ⊥) → Fails (lists m) b1List
-unfolding following kindOf
+unfolding ruledRun kindOf
 made-up zero h e = pos-ne-negsuc 0 3 (sym (ap (numberAt 1) e))
 made-up (suc zero) h e = pos-ne-negsuc 0 3 (sym (ap (numberAt 2) e))
 made-up (suc (suc zero)) h e = pos-ne-negsuc 0 3 (sym (ap (numberAt 3) e))

@@ -4,17 +4,17 @@ use mathlib.Core.List.{List, [], _∷_, _++_}
 use lib.ListN.{replicate, set}
 use Rattle.board.specs.Layout.{recordSize}
 
--- a byte and its place in a record; bytes not named are 0
+-- a byte and its position in a record; bytes not named are 0
 pub record PlacedByte : Type 0 where
-  pub place : ℕ
+  pub position : ℕ
   pub value : ℕ
 
 abbrev pub at : ℕ → ℕ → PlacedByte
-at place value = record { place = place; value = value }
+at position value = record { position = position; value = value }
 
-unfoldable pub stored : List PlacedByte → List ℕ
-stored [] = replicate recordSize 0
-stored (b ∷ bs) = set (stored bs) (b .place) (b .value)
+unfoldable pub recordBytes : List PlacedByte → List ℕ
+recordBytes [] = replicate recordSize 0
+recordBytes (b ∷ bs) = set (recordBytes bs) (b .position) (b .value)
 
 -- vendor 0F0Fh, device 0001h, command 0003h with mask 0003h, class 118000h, line 5 with mask FFh, pin 1
 abbrev pub both : List PlacedByte
@@ -32,5 +32,5 @@ ports = at 0x114 0xF0 ∷ at 0x115 0xFF ∷ at 0x116 0xFF ∷ at 0x117 0xFF ∷ 
 -- memory at 80000000h; memory at 80000400h and I/O at 00000100h; the trailer: 1,100 back, 2 records, edition 1, sum 3,720
 unfoldable pub b1 : List ℕ
 b1 =
-    stored (at 0x13 0x80 ∷ both ++ memory) ++ stored (at 0x11 0x04 ∷ at 0x13 0x80 ∷ at 0x14 0x01 ∷ at 0x15 0x01 ∷ both ++ (memory ++ ports))
+    recordBytes (at 0x13 0x80 ∷ both ++ memory) ++ recordBytes (at 0x11 0x04 ∷ at 0x13 0x80 ∷ at 0x14 0x01 ∷ at 0x15 0x01 ∷ both ++ (memory ++ ports))
     ++ (0 ∷ 0 ∷ 4 ∷ 0x4C ∷ 0 ∷ 2 ∷ 0 ∷ 1 ∷ 0 ∷ 0 ∷ 0x0E ∷ 0x88 ∷ [])

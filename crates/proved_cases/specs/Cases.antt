@@ -7,8 +7,8 @@ use lib.ListN.{length, replicate}
 use Rattle.numbers.specs.Numbers.{bigBytes}
 use Rattle.board.specs.Statuses.{successful, deviceNotFound, generalError}
 use Rattle.numbers.specs.declared.number.Width.the-variants.{Byte, Long}
-use Rattle.data_cells.specs.Cells.{valueAt}
-use Rattle.data_order.specs.Orders.{placed}
+use Rattle.data_cells.specs.Cells.{cellsValue}
+use Rattle.data_order.specs.Orders.{cellDistance}
 use Rattle.board.specs.declared.space.Space.the-variants.{Memory}
 use Rattle.call.specs.declared.answer.Answer.{Answer}
 use Rattle.call.specs.declared.call.Call.{Call}
@@ -17,7 +17,7 @@ use Rattle.call.specs.declared.call.Call.the-variants.{Load, Config, Data, GetR
 use Rattle.call.specs.declared.call.Query.the-variants.{FindPciDevice, FindPciClasscode, ListChain, ListWindow}
 use Rattle.call.specs.Answers.{answer, zeros, one, ofStatus, ofSearch, ofChain}
 use Rattle.reference.specs.Reference.{referenceStart}
-use Rattle.reference.specs.Run.{Asked, Heard, asked, heard, referenceAnswers}
+use Rattle.reference.specs.Run.{Request, Response, request, response, referenceResponses}
 use Rattle.proved_cases.specs.B1.{b1}
 
 -- a value that cells at the start of a window give in a byte order
@@ -37,14 +37,14 @@ pub data Case : Type 0 where
   cells : List ℕ → List Reading → Case
 
 -- a handle found; a number and a value; a window listed
-abbrev pub found : ℕ → Answer
-found handle = ofSearch (pos handle)
+abbrev pub foundHandle : ℕ → Answer
+foundHandle handle = ofSearch (pos handle)
 
 abbrev pub value : ℕ → Answer
 value v = answer (successful .0) (one v)
 
-abbrev pub listed : ℕ → ℕ → ℕ → ℕ → ℕ → ℕ → Answer
-listed space start length handle base contested = answer (successful .0) (space ∷ start ∷ length ∷ handle ∷ base ∷ contested ∷ [])
+abbrev pub windowAnswer : ℕ → ℕ → ℕ → ℕ → ℕ → ℕ → Answer
+windowAnswer space start length handle base contested = answer (successful .0) (space ∷ start ∷ length ∷ handle ∷ base ∷ contested ∷ [])
 
 -- a hook listed; the bytes of a descriptor: next (20), flags, start, length, offset and dmaoffset (both 0)
 abbrev pub chained : ℕ → ℕ → ℕ → Answer
@@ -54,28 +54,28 @@ abbrev pub descriptor : ℕ → ℕ → ℕ → List ℕ
 descriptor flags start length = bigBytes 2 20 ++ (bigBytes 2 flags ++ (bigBytes 4 start ++ (bigBytes 4 length ++ replicate 8 0)))
 
 -- the three windows of B1, with the start of handle 2's memory window and the mark of both
-abbrev pub list : ℕ → ℕ → List Answer
-list start contested =
-    listed 0 0x80000000 0x400 1 0 contested ∷ listed 0 start 0x400 2 0 contested ∷ listed 1 0x100 0x10 2 1 0 ∷ ofStatus deviceNotFound ∷ []
+abbrev pub listAnswers : ℕ → ℕ → List Answer
+listAnswers start contested =
+    windowAnswer 0 0x80000000 0x400 1 0 contested ∷ windowAnswer 0 start 0x400 2 0 contested ∷ windowAnswer 1 0x100 0x10 2 1 0 ∷ ofStatus deviceNotFound ∷ []
 
-abbrev pub listing : List Call
-listing = Ask (ListWindow 0) ∷ Ask (ListWindow 1) ∷ Ask (ListWindow 2) ∷ Ask (ListWindow 3) ∷ []
+abbrev pub listCalls : List Call
+listCalls = Ask (ListWindow 0) ∷ Ask (ListWindow 1) ∷ Ask (ListWindow 2) ∷ Ask (ListWindow 3) ∷ []
 
 -- the window list of B1, and document 01's cases
 abbrev pub b1List : Case
-b1List = case listing (list 0x80000400 0)
+b1List = case listCalls (listAnswers 0x80000400 0)
 
 abbrev pub p1 : Case
-p1 = case (Ask (FindPciDevice 0x00010F0F 1) ∷ []) (found 2 ∷ [])
+p1 = case (Ask (FindPciDevice 0x00010F0F 1) ∷ []) (foundHandle 2 ∷ [])
 
 abbrev pub p2 : Case
 p2 = case (Ask (FindPciDevice 0x00010F0F 2) ∷ []) (ofStatus deviceNotFound ∷ [])
 
 abbrev pub p3 : Case
-p3 = case (Ask (FindPciDevice 0x0000FFFF 0) ∷ []) (found 1 ∷ [])
+p3 = case (Ask (FindPciDevice 0x0000FFFF 0) ∷ []) (foundHandle 1 ∷ [])
 
 abbrev pub p4 : Case
-p4 = case (Ask (FindPciClasscode 0x01118055 0) ∷ []) (found 1 ∷ [])
+p4 = case (Ask (FindPciClasscode 0x01118055 0) ∷ []) (foundHandle 1 ∷ [])
 
 abbrev pub p5 : Case
 p5 = case (Ask (FindPciClasscode 0x00118055 0) ∷ []) (ofStatus deviceNotFound ∷ [])
@@ -98,8 +98,8 @@ p10 = case (Data Memory Long 1 (record { 0 = 0x800003FC }) (Write 1) ∷ []) (of
 
 abbrev pub p11 : Case
 p11 =
-    case (Config Long 2 0x10 (Write 0x80000000) ∷ listing ++ Config Long 2 0x10 (Write 0x80000400) ∷ listing)
-    (ofStatus successful ∷ list 0x80000000 1 ++ ofStatus successful ∷ list 0x80000400 0)
+    case (Config Long 2 0x10 (Write 0x80000000) ∷ listCalls ++ Config Long 2 0x10 (Write 0x80000400) ∷ listCalls)
+    (ofStatus successful ∷ listAnswers 0x80000000 1 ++ ofStatus successful ∷ listAnswers 0x80000400 0)
 
 abbrev pub p12 : Case
 p12 = buffer (GetResource 2) (descriptor 0x0701 0x80000400 0x400 ++ descriptor 0xC102 0x100 0x10)
@@ -113,35 +113,35 @@ p14 =
     case (HookInterrupt 2 0x2000 7 ∷ HookInterrupt 1 0x1000 8 ∷ Ask (ListChain 5 0) ∷ Ask (ListChain 5 1) ∷ Ask (ListChain 5 2) ∷ [])
     (ofStatus successful ∷ ofStatus successful ∷ chained 2 0x2000 7 ∷ chained 1 0x1000 8 ∷ ofStatus deviceNotFound ∷ [])
 
-abbrev pub table : List Case
-table = b1List ∷ p1 ∷ p2 ∷ p3 ∷ p4 ∷ p5 ∷ p6 ∷ p7 ∷ p8 ∷ p9 ∷ p10 ∷ p11 ∷ p12 ∷ p13 ∷ p14 ∷ []
+abbrev pub caseTable : List Case
+caseTable = b1List ∷ p1 ∷ p2 ∷ p3 ∷ p4 ∷ p5 ∷ p6 ∷ p7 ∷ p8 ∷ p9 ∷ p10 ∷ p11 ∷ p12 ∷ p13 ∷ p14 ∷ []
 
 -- what a machine answers to calls from the start, with B1's 2,064 cells
 abbrev pub Machine : Type 0
-Machine = List Asked → List Heard
+Machine = List Request → List Response
 
 abbrev pub cells2064 : List ℕ
 cells2064 = replicate 2064 0
 
-abbrev pub reference : Machine
-reference = referenceAnswers (referenceStart cells2064)
+abbrev pub referenceMachine : Machine
+referenceMachine = referenceResponses (referenceStart cells2064)
 
 -- a case holds of a machine that loads B1 and then gives its answers; a reading where the byte-order rule gives it
 abbrev pub Holds : Machine → Case → Type 0
 Holds m (case calls answers) =
-    m (asked Load b1 ∷ map (λ call. asked call []) calls) ≡ heard (ofStatus successful) b1 ∷ map (λ a. heard a []) answers
+    m (request Load b1 ∷ map (λ call. request call []) calls) ≡ response (ofStatus successful) b1 ∷ map (λ a. response a []) answers
 Holds m (buffer call left) =
-    m (asked Load b1 ∷ asked call (replicate (length left) 0) ∷ []) ≡ heard (ofStatus successful) b1 ∷ heard (ofStatus successful) left ∷ []
-Holds m (cells l readings) = map (λ r. valueAt (r .order) (r .width) (placed (r .order) (r .width) 0) l) readings ≡ map (λ r. r .value) readings
+    m (request Load b1 ∷ request call (replicate (length left) 0) ∷ []) ≡ response (ofStatus successful) b1 ∷ response (ofStatus successful) left ∷ []
+Holds m (cells l readings) = map (λ r. cellsValue (r .order) (r .width) (cellDistance (r .order) (r .width) 0) l) readings ≡ map (λ r. r .value) readings
 
 -- THE PROVED CASES: every row of the table holds of the reference machine
-abbrev pub Every : Machine → List Case → Type 0
-Every m [] = Unit {0}
-Every m (c ∷ cs) = Holds m c × Every m cs
+abbrev pub EveryCase : Machine → List Case → Type 0
+EveryCase m [] = Unit {0}
+EveryCase m (c ∷ cs) = Holds m c × EveryCase m cs
 
 abbrev pub ProvedCases : Type 0
-ProvedCases = Every reference table
+ProvedCases = EveryCase referenceMachine caseTable
 
 -- with one cell less B1 is refused with 8
 abbrev pub B1Short : Type 0
-B1Short = referenceAnswers (referenceStart (replicate 2063 0)) (asked Load b1 ∷ []) ≡ heard (answer (pos 8) zeros) b1 ∷ []
+B1Short = referenceResponses (referenceStart (replicate 2063 0)) (request Load b1 ∷ []) ≡ response (answer (pos 8) zeros) b1 ∷ []

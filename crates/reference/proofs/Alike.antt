@@ -14,21 +14,21 @@ use Rattle.board.specs.Handles.{headerOf}
 use Rattle.numbers.specs.Tables.{tableFrom, table}
 use Rattle.numbers.proofs.Tables.{table-length}
 use Rattle.data_cells.specs.Cells.{cellsAfter}
-use Rattle.data_cells.specs.declared.place.Place.the-variants.{At}
+use Rattle.data_cells.specs.declared.target.CellTarget.the-variants.{At}
 use Rattle.data_cells.proofs.Cells.{only-its-cells}
 use Rattle.cell_layout.specs.Cells.{zeroed}
 use Rattle.reset.proofs.Zeroed.{zeroed-length, zeroed-past}
-use Rattle.reference.specs.Claims.{accessed, Alike}
+use Rattle.reference.specs.Claims.{accessed, EqualOutside}
 use Rattle.reference.proofs.Tests.{ifEither}
 
-pub alike : (t : ℕ → Bool) (l : List ℕ) → Alike t l l
+pub alike : (t : ℕ → Bool) (l : List ℕ) → EqualOutside t l l
 alike t l = record { room = refl; same = λ i e. refl }
 
 pub touched : {A : Type 0} → true ≡ false → A
 touched e = absurd (false≢true (sym e))
 
 -- headers differ in their counts alone
-pub header-alike : (m n : ℕ) → Alike (λ i. eqb i 0) (headerOf m) (headerOf n)
+pub header-alike : (m n : ℕ) → EqualOutside (λ i. eqb i 0) (headerOf m) (headerOf n)
 header-alike m n = record { room = refl; same = past }
   where
     past : (i : ℕ) → eqb i 0 ≡ false → getD (headerOf m) i 0 ≡ getD (headerOf n) i 0
@@ -36,11 +36,11 @@ header-alike m n = record { room = refl; same = past }
     past (suc i) e = refl
 
 -- cells past those that are zeroed
-pub zeroed-alike : (n : ℕ) (cells : List ℕ) → n ≤ length cells → Alike (λ i. ltb i n) (zeroed n cells) cells
+pub zeroed-alike : (n : ℕ) (cells : List ℕ) → n ≤ length cells → EqualOutside (λ i. ltb i n) (zeroed n cells) cells
 zeroed-alike n cells h = record { room = zeroed-length n cells h; same = λ i e. zeroed-past n cells i (ltb-false i n e) }
 
 -- two tables of a length, whose functions agree where no touch is allowed
-pub table-alike : (t : ℕ → Bool) (n : ℕ) (f g : ℕ → ℕ) → ((j : ℕ) → t j ≡ false → f j ≡ g j) → Alike t (table n f) (table n g)
+pub table-alike : (t : ℕ → Bool) (n : ℕ) (f g : ℕ → ℕ) → ((j : ℕ) → t j ≡ false → f j ≡ g j) → EqualOutside t (table n f) (table n g)
 unfolding tableFrom
 table-alike t n f g e =
     record { room = table-length 0 n f ∙ sym (table-length 0 n g); same = λ j u. agree 0 n j (rw (zero-add j) (e j u)) }
@@ -51,7 +51,7 @@ table-alike t n f g e =
     agree i (suc m) (suc j) d = let k : suc i + j ≡ i + suc j = omega arith in agree (suc i) m j (rw k d)
 
 -- an image put to the front of an own buffer
-pub front-alike : (n : ℕ) (image own : List ℕ) → length image ≡ n → n ≤ length own → Alike (λ i. ltb i n) (image ++ drop n own) own
+pub front-alike : (n : ℕ) (image own : List ℕ) → length image ≡ n → n ≤ length own → EqualOutside (λ i. ltb i n) (image ++ drop n own) own
 front-alike n image own e h =
     record {
       room = length-append image (drop n own) ∙ rw (e, length-drop n own) (omega arith);
@@ -70,7 +70,7 @@ outside : (at w j : ℕ) → (leb at j && ltb j (at + w)) ≡ false → (j < at)
 outside at w j h =
     ifEither (leb at j) (λ e. inr (ltb-false j (at + w) (rw e at h))) (λ e. inl (leb-false at j e))
 
-pub written-alike : (order w at value : ℕ) (cells : List ℕ) → Alike (accessed w (At at order)) (cellsAfter order w at value cells) cells
+pub written-alike : (order w at value : ℕ) (cells : List ℕ) → EqualOutside (accessed w (At at order)) (cellsAfter order w at value cells) cells
 written-alike order w at value cells =
     let k = only-its-cells order w at value cells in
     record { room = k .room; same = λ j u. k .same j (outside at w j u) }

@@ -11,18 +11,18 @@ use Rattle.board.specs.Layout.{functionsMax}
 use Rattle.numbers.proofs.Tests.{either-false}
 use Rattle.interrupt_array.specs.Hooks.{Hook, chosen, packed}
 use Rattle.interrupt_hook.specs.Chain.{unhooked}
-use Rattle.interrupt_hook.specs.Meaning.{Every, isAmong, without}
+use Rattle.interrupt_hook.specs.Meaning.{EveryHook, isAmong, without}
 use Rattle.interrupt_hook.proofs.Packed.{every-map}
 use Rattle.interrupt_hook.proofs.Repacked.{packed-unhook}
 use Rattle.interrupt_hook.proofs.Room.{Once}
 
-pub every-append : (P : Hook → Type 0) (a b : List Hook) → Every P a → Every P b → Every P (a ++ b)
+pub every-append : (P : Hook → Type 0) (a b : List Hook) → EveryHook P a → EveryHook P b → EveryHook P (a ++ b)
 every-append P [] b x y = y
 every-append P (h ∷ a) b x y = (x .0, every-append P a b (x .1) y)
 
 -- no hook of a handle
 abbrev pub NoneOf : ℕ → List Hook → Type 0
-NoneOf handle hs = Every (λ h. h .handle ≡ handle → ⊥) hs
+NoneOf handle hs = EveryHook (λ h. h .handle ≡ handle → ⊥) hs
 
 pub none-among : (handle : ℕ) (hs : List Hook) → NoneOf handle hs → isAmong handle hs ≡ false
 unfolding isAmong
@@ -60,12 +60,12 @@ without-first handle (h ∷ a) b e = by (eqb (h .handle) handle) e (without-firs
     by true e more = refl
     by false e more = ap (λ (l : List Hook). h ∷ l) (more e)
 
-pub every-without : (P : Hook → Type 0) (handle : ℕ) (hs : List Hook) → Every P hs → Every P (without handle hs)
+pub every-without : (P : Hook → Type 0) (handle : ℕ) (hs : List Hook) → EveryHook P hs → EveryHook P (without handle hs)
 unfolding without
 every-without P handle [] e = tt
 every-without P handle (h ∷ hs) e = by (eqb (h .handle) handle) (every-without P handle hs (e .1))
   where
-    by : (t : Bool) → Every P (without handle hs) → Every P (cond t hs (h ∷ without handle hs))
+    by : (t : Bool) → EveryHook P (without handle hs) → EveryHook P (cond t hs (h ∷ without handle hs))
     by true r = e .1
     by false r = (e .0, r)
 
@@ -110,17 +110,17 @@ packed-without handle hs room e =
     (every-map (λ g. g .handle ≡ handle → ⊥) (λ g. g .handle ≡ t .entry .handle → ⊥) (λ g n z. n (z ∙ t .own)) (t .before) (t .none))
     ∙ ap packed (sym (t .left))
 
-pub once-append : (a b : List Hook) → Once a → Once b → Every (λ h. isAmong (h .handle) b ≡ false) a → Once (a ++ b)
+pub once-append : (a b : List Hook) → Once a → Once b → EveryHook (λ h. isAmong (h .handle) b ≡ false) a → Once (a ++ b)
 once-append [] b x y n = y
 once-append (h ∷ a) b x y n = (among-append (h .handle) a b ∙ rw (x .0, n .0), once-append a b (x .1) y (n .1))
 
 -- all or none are chosen
-pub chosen-every : (t : Hook → Bool) (hs : List Hook) → Every (λ h. t h ≡ true) hs → chosen t hs ≡ hs
+pub chosen-every : (t : Hook → Bool) (hs : List Hook) → EveryHook (λ h. t h ≡ true) hs → chosen t hs ≡ hs
 unfolding chosen
 chosen-every t [] e = refl
 chosen-every t (h ∷ hs) e = rw (e .0) (ap (λ (l : List Hook). h ∷ l) (chosen-every t hs (e .1)))
 
-pub chosen-nothing : (t : Hook → Bool) (hs : List Hook) → Every (λ h. t h ≡ false) hs → chosen t hs ≡ []
+pub chosen-nothing : (t : Hook → Bool) (hs : List Hook) → EveryHook (λ h. t h ≡ false) hs → chosen t hs ≡ []
 unfolding chosen
 chosen-nothing t [] e = refl
 chosen-nothing t (h ∷ hs) e = rw (e .0) (chosen-nothing t hs (e .1))

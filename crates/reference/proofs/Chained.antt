@@ -9,7 +9,7 @@ use lib.ListN.{length}
 use borrow.Author.Tests.{ne-eqb, eqb-true, leb-true, leb-false}
 use Rattle.numbers.specs.Numbers.{byteAt}
 use Rattle.interrupt_array.specs.Hooks.{Hook, hook, lastLine}
-use Rattle.interrupt_hook.specs.Meaning.{Every, isAmong, without}
+use Rattle.interrupt_hook.specs.Meaning.{EveryHook, isAmong, without}
 use Rattle.interrupt_hook.proofs.Packed.{every-map}
 use Rattle.interrupt_hook.proofs.Room.{Once, Within, once-few}
 use Rattle.reference.specs.Reference.{recordOf}
@@ -31,14 +31,14 @@ pub record On (rs : List (List ℕ)) (line : ℕ) (h : Hook) : Type 0 where
 
 -- every chain has hooks on its line, each function's at most once
 pub record Chained (rs : List (List ℕ)) (chains : ℕ → List Hook) : Type 0 where
-  pub each : (line : ℕ) → Every (On rs line) (chains line)
+  pub each : (line : ℕ) → EveryHook (On rs line) (chains line)
   pub once : (line : ℕ) → Once (chains line)
 
 pub no-chains : (rs : List (List ℕ)) → Chained rs (λ line. [])
 no-chains rs = record { each = λ line. tt; once = λ line. tt }
 
 -- a line on which there is a hook is at most 15
-pub hooked-last : (rs : List (List ℕ)) (handle line : ℕ) (hs : List Hook) → Every (On rs line) hs → isAmong handle hs ≡ true → line ≤ lastLine
+pub hooked-last : (rs : List (List ℕ)) (handle line : ℕ) (hs : List Hook) → EveryHook (On rs line) hs → isAmong handle hs ≡ true → line ≤ lastLine
 unfolding isAmong
 hooked-last rs handle line [] o e = absurd (false≢true e)
 hooked-last rs handle line (h ∷ hs) o e = o .0 .last
@@ -84,7 +84,7 @@ module _ (rs : List (List ℕ)) (chains : ℕ → List Hook) (k : Chained rs cha
       every-map (On rs l) (λ h. isAmong (h .handle) (chains n) ≡ false)
       (λ h o. none-among (h .handle) (chains n) (elsewhere (h .handle) n (λ z. omega (arith, o .loaded)))) (chains l) (k .each l)))
 
-  pub within-lines : Every (Within (length rs)) (allLines chains)
+  pub within-lines : EveryHook (Within (length rs)) (allLines chains)
   within-lines =
       every-lines (Within (length rs)) chains (lastLine + 1)
       (λ l m. every-map (On rs l) (Within (length rs)) (λ h o. (o .low, o .high)) (chains l) (k .each l))
@@ -106,10 +106,10 @@ module _ (rs : List (List ℕ)) (chains : ℕ → List Hook) (k : Chained rs cha
       ∙ sym (lines-changed chains line (without handle (chains line)) h)
 
   -- another chain on a line
-  pub chained-changed : (line : ℕ) (new : List Hook) → Every (On rs line) new → Once new → Chained rs (λ l. cond (eqb l line) new (chains l))
+  pub chained-changed : (line : ℕ) (new : List Hook) → EveryHook (On rs line) new → Once new → Chained rs (λ l. cond (eqb l line) new (chains l))
   chained-changed line new each once =
       record {
-        each = λ l. ifTest (Every (On rs l)) (eqb l line) (λ e. rw (eqb-true l line e) each) (λ e. k .each l);
+        each = λ l. ifTest (EveryHook (On rs l)) (eqb l line) (λ e. rw (eqb-true l line e) each) (λ e. k .each l);
         once = λ l. ifTest Once (eqb l line) (λ e. once) (λ e. k .once l);
       }
 

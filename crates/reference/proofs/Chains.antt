@@ -8,8 +8,8 @@ use borrow.Author.Tests.{leb-true, ltb-false, not-true}
 use Rattle.board.specs.Parts.{withHooks}
 use Rattle.numbers.proofs.Tests.{both-true}
 use Rattle.interrupt_array.specs.Hooks.{Hook, hook, lineOf, pinOf, lastLine, isRouted, chainOf, packed}
-use Rattle.interrupt_hook.specs.Chain.{Changed}
-use Rattle.interrupt_list.specs.Listing.{listed, chainListing, chainNumberOf, chainValuesOf}
+use Rattle.interrupt_hook.specs.Chain.{HookOutcome}
+use Rattle.interrupt_list.specs.Listing.{listedHook, chainListing, chainNumberOf, chainValuesOf}
 use Rattle.interrupt_hook.specs.Meaning.{without}
 use Rattle.interrupt_list.specs.declared.listing.ChainListing.{ChainListing}
 use Rattle.interrupt_list.proofs.Listings.{chain-number, chain-values}
@@ -19,15 +19,15 @@ use Rattle.call.specs.declared.answer.Answer.{Answer}
 use Rattle.call.specs.declared.call.Call.the-variants.{HookInterrupt, UnhookInterrupt}
 use Rattle.call.specs.declared.call.Query.the-variants.{ListChain}
 use Rattle.call.specs.Answers.{ofStatus, ofChain}
-use Rattle.reference.specs.State.{next, step, queried}
-use Rattle.reference.specs.Reference.{Reference, Told, told, joined, lineFor, pinFor, withChainOf, referenceStep, referenceQueried}
+use Rattle.reference.specs.State.{outcome, step, queried}
+use Rattle.reference.specs.Reference.{Reference, ReferenceOutcome, referenceOutcome, joined, lineFor, pinFor, withChainOf, referenceStep, referenceQueried}
 use Rattle.reference.specs.Run.{partsOf}
 use Rattle.reference.proofs.Tests.{ifBoth, ifAlike}
 use Rattle.reference.proofs.Registers.{kept-byte}
 use Rattle.reference.proofs.Among.{every-without, packed-without}
 use Rattle.reference.proofs.Lines.{allLines}
 use Rattle.reference.proofs.Chained.{On, Chained, among-lines, without-lines, chained-changed, chained-hook}
-use Rattle.reference.proofs.Sound.{Sound, sound-with, Same, Simulated, Answered, as-told, handle-same, handle-within}
+use Rattle.reference.proofs.Sound.{Sound, sound-with, Same, Simulated, Answered, as-outcome, handle-same, handle-within}
 use Rattle.reference.proofs.HookArray.{line-kept, few, hooked-same, room, free-same, hook-lines, chain-same}
 
 module _ (b : Reference) (s : Sound b) where
@@ -41,10 +41,10 @@ module _ (b : Reference) (s : Sound b) where
   chains = b .chains
 
   -- another chain on a line, and the array that holds it
-  chain-told : {a : Answer} {own hooks : List ℕ} (line : ℕ) (chain : List Hook) → hooks ≡ packed (allLines (withChainOf line chain b .chains))
-      → Chained rs (withChainOf line chain b .chains) → Same (next a (withHooks hooks (partsOf b)) own) (told a (withChainOf line chain b) own)
+  chain-outcome : {a : Answer} {own hooks : List ℕ} (line : ℕ) (chain : List Hook) → hooks ≡ packed (allLines (withChainOf line chain b .chains))
+      → Chained rs (withChainOf line chain b .chains) → Same (outcome a (withHooks hooks (partsOf b)) own) (referenceOutcome a (withChainOf line chain b) own)
   unfolding partsOf
-  chain-told line chain e k =
+  chain-outcome line chain e k =
       record {
         answer = refl;
         parts = ap (λ (l : List ℕ). withHooks l (partsOf b)) e;
@@ -53,8 +53,8 @@ module _ (b : Reference) (s : Sound b) where
       }
 
   -- what a call that changes the hooks leaves, beside what the reference machine says
-  abbrev Changes : List ℕ → Changed → Told → Type 0
-  Changes own w t = Same (next (ofStatus (w .status)) (withHooks (w .hooks) (partsOf b)) own) t
+  abbrev Changes : List ℕ → HookOutcome → ReferenceOutcome → Type 0
+  Changes own w t = Same (outcome (ofStatus (w .status)) (withHooks (w .hooks) (partsOf b)) own) t
 
   pub same-hook : (handle handler parameter : ℕ) (own : List ℕ) → Simulated b (HookInterrupt handle handler parameter) own
   unfolding step referenceStep partsOf
@@ -72,11 +72,11 @@ module _ (b : Reference) (s : Sound b) where
       ifAlike (Changes own) (free-same b s handle (k .0) (k .1))
       (λ f.
       let e = not-true _ f in
-      chain-told line (chains line ++ hook handle handler parameter ∷ []) (hook-lines b s handle handler parameter last (room b s handle (k .0) (k .1) e))
+      chain-outcome line (chains line ++ hook handle handler parameter ∷ []) (hook-lines b s handle handler parameter last (room b s handle (k .0) (k .1) e))
       (chained-hook rs chains (s .chained) handle handler parameter (k .0) (k .1) last e))
-      (λ f. as-told b s))
-      (λ r. as-told b s))
-      (λ g. as-told b s)
+      (λ f. as-outcome b s))
+      (λ r. as-outcome b s))
+      (λ g. as-outcome b s)
 
   pub same-unhook : (handle : ℕ) (own : List ℕ) → Simulated b (UnhookInterrupt handle) own
   unfolding step referenceStep partsOf
@@ -86,17 +86,17 @@ module _ (b : Reference) (s : Sound b) where
       (λ g.
       ifAlike (Changes own) (hooked-same b s handle (handle-within b handle g .0))
       (λ e.
-      chain-told line (without handle (chains line))
+      chain-outcome line (without handle (chains line))
       (packed-without handle (allLines chains) (few b s) (among-lines rs chains (s .chained) handle ∙ e) ∙ ap packed (without-lines rs chains (s .chained) handle e))
       (chained-changed rs chains (s .chained) line (without handle (chains line)) (every-without (On rs line) handle (chains line) (s .chained .each line))
       (without-once handle (chains line) (s .chained .once line))))
-      (λ e. as-told b s))
-      (λ g. as-told b s)
+      (λ e. as-outcome b s))
+      (λ g. as-outcome b s)
 
-  pub same-list-chain : (line place : ℕ) → Answered b (ListChain line place)
+  pub same-list-chain : (line index : ℕ) → Answered b (ListChain line index)
   unfolding queried referenceQueried partsOf
-  same-list-chain line place =
-      let given : chainListing (chainOf records (packed (allLines chains)) line) line place ≡ chainListing (chains line) line place =
-      ifBoth (λ (x y : ChainListing). x ≡ y) (ltb lastLine line) (λ e. refl) (λ e. ap (λ (c : List Hook). listed c place) (chain-same b s line (ltb-false lastLine line e))) in
+  same-list-chain line index =
+      let given : chainListing (chainOf records (packed (allLines chains)) line) line index ≡ chainListing (chains line) line index =
+      ifBoth (λ (x y : ChainListing). x ≡ y) (ltb lastLine line) (λ e. refl) (λ e. ap (λ (c : List Hook). listedHook c index) (chain-same b s line (ltb-false lastLine line e))) in
       ap (λ (l : ChainListing). ofChain (chainNumberOf l) (chainValuesOf l)) given
-      ∙ rw (chain-number (chains line) line place, chain-values (chains line) line place)
+      ∙ rw (chain-number (chains line) line index, chain-values (chains line) line index)

@@ -13,7 +13,7 @@ use Rattle.window_list.specs.Windows.{windowList}
 use Rattle.window_list.specs.Kept.{keptList}
 use Rattle.config_read.specs.Target.{target}
 use Rattle.config_read.specs.Read.{readOf, fastReadOf}
-use Rattle.config_write.specs.Write.{Wrote, writeTo}
+use Rattle.config_write.specs.Write.{ConfigWritten, writeTo}
 use Rattle.search.specs.Search.{deviceMatches, classMatches, matching, searched, foundNumber, searchNumber}
 use Rattle.config_read.specs.declared.target.Target.{Target}
 use Rattle.config_write.proofs.Moves.{list-follows}
@@ -22,12 +22,12 @@ use Rattle.call.specs.declared.call.Access.the-variants.{Read, FastRead, Write}
 use Rattle.call.specs.declared.call.Call.the-variants.{Config}
 use Rattle.call.specs.declared.call.Query.the-variants.{FindPciDevice, FindPciClasscode}
 use Rattle.call.specs.Answers.{ofStatus}
-use Rattle.reference.specs.State.{next, step, queried}
+use Rattle.reference.specs.State.{outcome, step, queried}
 use Rattle.reference.specs.Reference.{Reference, windowsOf, targetOf, registersAfter, withRegistersOf, writeOf, referenceStep, referenceQueried}
 use Rattle.reference.specs.Run.{partsOf}
 use Rattle.reference.proofs.Tests.{ifTarget}
 use Rattle.reference.proofs.Registers.{flat, flat-byte, flat-number, list-kept, written-same}
-use Rattle.reference.proofs.Sound.{Sound, sound-with, Same, Simulated, Answered, as-told, count-same}
+use Rattle.reference.proofs.Sound.{Sound, sound-with, Same, Simulated, Answered, as-outcome, count-same}
 
 -- the window list, worked out from the lent parts
 list-afresh : (b : Reference) → Sound b → windowList (partsOf b .header) (partsOf b .records) (partsOf b .registers) ≡ windowsOf b
@@ -35,7 +35,7 @@ unfolding partsOf
 list-afresh b s = list-kept (b .records) (s .kept .sized) (b .registers) (s .kept .few)
 
 -- what a write of w registers leaves of a board's lent parts
-abbrev pub left : Reference → ℕ → ℕ → ℕ → Target → Wrote
+abbrev pub left : Reference → ℕ → ℕ → ℕ → Target → ConfigWritten
 left b w register value t =
     let p = partsOf b in writeTo (p .header) (p .records) (p .registers) (p .windows) w register value t
 
@@ -77,11 +77,11 @@ module _ (b : Reference) (s : Sound b) where
 
   pub same-read : (width : Width) (handle register : ℕ) (own : List ℕ) → Simulated b (Config width handle register Read) own
   unfolding step referenceStep partsOf
-  same-read width handle register own = rw (target-same _ handle register, reads _ handle register .0) (as-told b s)
+  same-read width handle register own = rw (target-same _ handle register, reads _ handle register .0) (as-outcome b s)
 
   pub same-fast-read : (width : Width) (handle register : ℕ) (own : List ℕ) → Simulated b (Config width handle register FastRead) own
   unfolding step referenceStep partsOf
-  same-fast-read width handle register own = rw (target-same _ handle register, reads _ handle register .1) (as-told b s)
+  same-fast-read width handle register own = rw (target-same _ handle register, reads _ handle register .1) (as-outcome b s)
 
   -- the list that a write leaves is that of the registers that it leaves
   pub follows : (w handle register value : ℕ)
@@ -99,7 +99,7 @@ module _ (b : Reference) (s : Sound b) where
       let p = partsOf b in
       let o = left b w register value t in
       Same
-      (next (ofStatus (o .status)) (withRegisters (o .registers) (keptList (windowList (p .header) (p .records) (o .registers))) p) own)
+      (outcome (ofStatus (o .status)) (withRegisters (o .registers) (keptList (windowList (p .header) (p .records) (o .registers))) p) own)
       (writeOf b w register value own t)
 
   pub writes : (w handle register value : ℕ) (own : List ℕ) → Writes w register value own (targetOf b w handle register)
@@ -109,14 +109,14 @@ module _ (b : Reference) (s : Sound b) where
       (λ i h e k.
       let c = withRegistersOf (registersAfter b w i register value) b in
       let d : Sound c = sound-with s (omega arith) (s .chained) in
-      rw (written-same b (s .kept .sized) w i register value (omega (arith, s .kept .few)) k, list-afresh c d) (as-told c d))
-      (rw (list-afresh b s) (as-told b s)) (rw (list-afresh b s) (as-told b s))
+      rw (written-same b (s .kept .sized) w i register value (omega (arith, s .kept .few)) k, list-afresh c d) (as-outcome c d))
+      (rw (list-afresh b s) (as-outcome b s)) (rw (list-afresh b s) (as-outcome b s))
 
   -- and with any list that is the one worked out anew
   writes-list : (w handle register value : ℕ) (own l : List ℕ)
       → (let o = left b w register value (targetOf b w handle register) in
       l ≡ keptList (windowList (partsOf b .header) (partsOf b .records) (o .registers))
-      → Same (next (ofStatus (o .status)) (withRegisters (o .registers) l (partsOf b)) own) (writeOf b w register value own (targetOf b w handle register)))
+      → Same (outcome (ofStatus (o .status)) (withRegisters (o .registers) l (partsOf b)) own) (writeOf b w register value own (targetOf b w handle register)))
   writes-list w handle register value own l e = rw e (writes w handle register value own)
 
   pub same-write-config : (width : Width) (handle register value : ℕ) (own : List ℕ)

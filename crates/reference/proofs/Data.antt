@@ -14,10 +14,10 @@ use Rattle.board.specs.declared.address.CpuAddress.{CpuAddress}
 use Rattle.numbers.specs.declared.number.Width.{Width}
 use Rattle.window.specs.Window.{Window}
 use Rattle.window_list.proofs.KeptArray.{kept-of}
-use Rattle.data_cells.specs.Cells.{placeOf, dataPlace}
+use Rattle.data_cells.specs.Cells.{cellTargetOf, cellTarget}
 use Rattle.board.specs.Spaces.{spaceNumber}
 use Rattle.data_window.specs.Find.{holds, offers, inList, find, findIn}
-use Rattle.data_order.specs.Orders.{placed}
+use Rattle.data_order.specs.Orders.{cellDistance}
 use Rattle.data_window.specs.declared.find.Finding.{Finding}
 use Rattle.data_window.specs.declared.find.Finding.the-variants.{Found, Refused as NoWindow}
 use Rattle.board.specs.declared.space.Space.{Space}
@@ -29,11 +29,11 @@ use Rattle.call.specs.declared.call.Access.the-variants.{Read, FastRead, Write}
 use Rattle.call.specs.declared.call.Call.the-variants.{Data}
 use Rattle.call.specs.declared.call.Query.the-variants.{BusToCpu, CpuToBus}
 use Rattle.reference.specs.State.{step, queried}
-use Rattle.reference.specs.Reference.{Reference, entryOf, exponentOf, joined, windowsOf, findFor, placeIn, placeFor, referenceStep, referenceQueried}
+use Rattle.reference.specs.Reference.{Reference, entryField, exponentOf, joined, windowsOf, findFor, cellTargetAt, cellTargetFor, referenceStep, referenceQueried}
 use Rattle.reference.specs.Run.{partsOf}
 use Rattle.reference.proofs.Tests.{ifBoth, ifAt}
 use Rattle.reference.proofs.Registers.{kept-byte, kept-number}
-use Rattle.reference.proofs.Sound.{Sound, sound-with, Simulated, Answered, as-told, count-same}
+use Rattle.reference.proofs.Sound.{Sound, sound-with, Simulated, Answered, as-outcome, count-same}
 use Rattle.reference.proofs.InSlot.{in-window}
 
 -- a search asks only base registers below 6 whether they offer the width
@@ -54,54 +54,54 @@ module _ (b : Reference) (s : Sound b) where
         count-same b s,
         offset-at (exponentOf (b .records)) windowsMax (omega arith),
         kept-of (length (b .records)) (exponentOf (b .records)) (b .registers) (s .kept .few),
-        in-list-same (λ c. offers w (widths (padded (joined (b .records))) (handle - 1) c)) (λ c. offers w (entryOf (b .records) (handle - 1) c 2)) space
+        in-list-same (λ c. offers w (widths (padded (joined (b .records))) (handle - 1) c)) (λ c. offers w (entryField (b .records) (handle - 1) c 2)) space
             handle address (λ c h. rw (kept-byte (b .records) (s .kept .sized) (handle - 1) (entriesAt + entrySize * c + 2) (omega arith))) (windowsOf b),
       )
 
   -- a window that is found has its cells in the buffer
-  place-found : (width : Width) (space handle address : ℕ) (f : Finding) → findFor b (bytes width) space handle address ≡ f
+  target-found : (width : Width) (space handle address : ℕ) (f : Finding) → findFor b (bytes width) space handle address ≡ f
       → (let p = partsOf b in
-      placeOf (λ c. getD (p .cellOffsets) (bases * (handle - 1) + c) 0) (byteOrder (p .records) (handle - 1)) (length (p .cells)) (bytes width) f)
-      ≡ placeIn b (bytes width) handle f
-  unfolding partsOf placeOf placeIn
-  place-found width space handle address (Found base distance remaining) e =
+      cellTargetOf (λ c. getD (p .cellOffsets) (bases * (handle - 1) + c) 0) (byteOrder (p .records) (handle - 1)) (length (p .cells)) (bytes width) f)
+      ≡ cellTargetAt b (bytes width) handle f
+  unfolding partsOf cellTargetOf cellTargetAt
+  target-found width space handle address (Found base distance remaining) e =
       let k = exponentOf (b .records) in
       let v = in-window b width space handle address base distance remaining e in
       let n = bases * (handle - 1) + base in
       let there : n < windowsMax = omega (arith, v .low, v .high, v .six, s .kept .few) in
-      let o = entryOf (b .records) (handle - 1) base 1 in
+      let o = entryField (b .records) (handle - 1) base 1 in
       rw (
         kept-byte (b .records) (s .kept .sized) (handle - 1) (entriesAt + entrySize * base + 1) (omega (arith, v .six)),
-        le-ltb (length (b .cells)) (getD (offsetsOf k) n 0 + placed o (bytes width) distance + bytes width)
+        le-ltb (length (b .cells)) (getD (offsetsOf k) n 0 + cellDistance o (bytes width) distance + bytes width)
             (omega (arith, v .inside o, cell-ranges k .apart n windowsMax there (omega arith), cell-ranges k .last, s .fits)),
         offset-at k n (omega arith),
       )
-  place-found width space handle address (NoWindow r) e = refl
+  target-found width space handle address (NoWindow r) e = refl
 
-  place-same : (width : Width) (space handle address : ℕ)
-      → (let p = partsOf b in dataPlace (bytes width) (p .header) (p .records) (p .windows) (p .cellOffsets) (length (p .cells)) space handle address)
-      ≡ placeFor b (bytes width) space handle address
-  place-same width space handle address = rw (find-same (bytes width) space handle address) (place-found width space handle address _ refl)
+  target-same : (width : Width) (space handle address : ℕ)
+      → (let p = partsOf b in cellTarget (bytes width) (p .header) (p .records) (p .windows) (p .cellOffsets) (length (p .cells)) space handle address)
+      ≡ cellTargetFor b (bytes width) space handle address
+  target-same width space handle address = rw (find-same (bytes width) space handle address) (target-found width space handle address _ refl)
 
   pub same-read-data : (space : Space) (width : Width) (handle : ℕ) (address : BusAddress) (own : List ℕ)
       → Simulated b (Data space width handle address Read) own
   unfolding step referenceStep partsOf
-  same-read-data space width handle address own = rw (place-same width _ handle (address .0)) (as-told b s)
+  same-read-data space width handle address own = rw (target-same width _ handle (address .0)) (as-outcome b s)
 
   pub same-fast-read-data : (space : Space) (width : Width) (handle : ℕ) (address : BusAddress) (own : List ℕ)
       → Simulated b (Data space width handle address FastRead) own
   unfolding step referenceStep partsOf
-  same-fast-read-data space width handle address own = rw (place-same width _ handle (address .0)) (as-told b s)
+  same-fast-read-data space width handle address own = rw (target-same width _ handle (address .0)) (as-outcome b s)
 
   pub same-write-data : (space : Space) (width : Width) (handle : ℕ) (address : BusAddress) (value : ℕ) (own : List ℕ)
       → Simulated b (Data space width handle address (Write value)) own
   unfolding step referenceStep partsOf
   same-write-data space width handle address value own =
-      rw (place-same width _ handle (address .0))
-      (ifAt (placeFor b (bytes width) (spaceNumber space) handle (address .0))
+      rw (target-same width _ handle (address .0))
+      (ifAt (cellTargetFor b (bytes width) (spaceNumber space) handle (address .0))
       (λ at order e.
-      rw e (as-told _ (sound-with s (simp length-sets (omega arith)) (s .chained))))
-      (λ r e. rw e (as-told b s)))
+      rw e (as-outcome _ (sound-with s (simp length-sets (omega arith)) (s .chained))))
+      (λ r e. rw e (as-outcome b s)))
 
   pub same-bus-to-cpu : (handle : ℕ) (address : BusAddress) → Answered b (BusToCpu handle address)
   unfolding queried referenceQueried partsOf

@@ -19,8 +19,8 @@ use Rattle.image_writer.proofs.Lists.{trailer-length}
 use Rattle.call.specs.declared.call.Call.{Call}
 use Rattle.call.specs.declared.call.Access.the-variants.{Read, FastRead, Write}
 use Rattle.call.specs.declared.call.Call.the-variants.{Load, Reset, WriteImage, Config, Data, GetResource, HookInterrupt, UnhookInterrupt, SetCardUsed, Ask}
-use Rattle.reference.specs.Reference.{Reference, exponentOf, joined, imageBytes, targetOf, placeFor, writeOf, verdict, referenceStep, referenceStart}
-use Rattle.reference.specs.Run.{Asked, stepOn, referenceAfter, partsOf}
+use Rattle.reference.specs.Reference.{Reference, exponentOf, joined, imageBytes, targetOf, cellTargetFor, writeOf, imageVerdict, referenceStep, referenceStart}
+use Rattle.reference.specs.Run.{Request, stepOn, referenceAfter, partsOf}
 use Rattle.reference.specs.Claims.{Touch, none, every, touch, nothing, addressed, mayTouch, Framed, Frame}
 use Rattle.reference.proofs.Tests.{ifTest, ifTarget, ifAt}
 use Rattle.reference.proofs.Alike.{alike, touched, header-alike, zeroed-alike, table-alike, front-alike, written-alike}
@@ -40,7 +40,7 @@ module _ (b : Reference) (s : Sound b) (own : List ℕ) where
   stays-load : Stays (mayTouch b Load own) b own (referenceStep b Load own)
   unfolding mayTouch referenceStep partsOf
   stays-load =
-      ifTest (Stays (mayTouch b Load own) b own) (isAccepted (verdict own (length (b .cells))))
+      ifTest (Stays (mayTouch b Load own) b own) (isAccepted (imageVerdict own (length (b .cells))))
       (λ e.
       record {
         header = header-alike _ _;
@@ -130,7 +130,7 @@ module _ (b : Reference) (s : Sound b) (own : List ℕ) where
   stays (Data space width handle address Read) = keeps nothing b own _
   stays (Data space width handle address FastRead) = keeps nothing b own _
   stays (Data space width handle address (Write value)) =
-      ifAt (placeFor b (bytes width) (spaceNumber space) handle (address .0))
+      ifAt (cellTargetFor b (bytes width) (spaceNumber space) handle (address .0))
       (λ at order e. rw e (cells-and-own _ b _ own own _ (written-alike order _ at value (b .cells)) (alike _ own)))
       (λ r e. rw e (keeps _ b own _))
   stays (GetResource handle) = stays-resource b own handle
@@ -139,7 +139,7 @@ module _ (b : Reference) (s : Sound b) (own : List ℕ) where
   stays (SetCardUsed handle status callBack) = stays-used b own handle status callBack
   stays (Ask query) = keeps nothing b own _
 
-framed : (b : Reference) → Sound b → (c : Asked) → Framed (mayTouch b (c .call) (c .own)) (partsOf b) (c .own) (stepOn (partsOf b) c)
+framed : (b : Reference) → Sound b → (c : Request) → Framed (mayTouch b (c .call) (c .own)) (partsOf b) (c .own) (stepOn (partsOf b) c)
 framed b s c = rw (same b s (c .call) (c .own) .answer, same b s (c .call) (c .own) .parts, same b s (c .call) (c .own) .own) (stays b s (c .own) (c .call))
 
 pub frame : Frame

@@ -10,7 +10,7 @@ use borrow.Author.Tests.{eq-eqb, ne-eqb}
 use Rattle.board.specs.Layout.{functionsMax}
 use Rattle.interrupt_array.specs.Hooks.{Hook, hook, hookAt, lineOf, lastLine, chosen, chainOf, packed}
 use Rattle.interrupt_hook.specs.Chain.{isHooked, isFree, hooked}
-use Rattle.interrupt_hook.specs.Meaning.{Every, isAmong}
+use Rattle.interrupt_hook.specs.Meaning.{EveryHook, isAmong}
 use Rattle.interrupt_hook.proofs.Entries.{chosen-append}
 use Rattle.interrupt_hook.proofs.Packed.{every-map, packed-chain, packed-hooked, packed-free}
 use Rattle.interrupt_hook.proofs.Repacked.{UpTo, Above, packed-hook}
@@ -39,13 +39,13 @@ module _ (b : Reference) (s : Sound b) where
   line-kept handle = kept-byte rs (s .kept .sized) (handle - 1) 0x3C (omega arith)
 
   -- what every hook on a line has, the hooks of some lines have
-  of-each : (P : Hook → Type 0) (line : ℕ) → ((h : Hook) → On rs line h → P h) → Every P (chains line)
+  of-each : (P : Hook → Type 0) (line : ℕ) → ((h : Hook) → On rs line h → P h) → EveryHook P (chains line)
   of-each P line f = every-map (On rs line) P f (chains line) (s .chained .each line)
 
-  below-all : (P : Hook → Type 0) (n : ℕ) → ((l : ℕ) → l < n → (h : Hook) → On rs l h → P h) → Every P (lineByLine chains n)
+  below-all : (P : Hook → Type 0) (n : ℕ) → ((l : ℕ) → l < n → (h : Hook) → On rs l h → P h) → EveryHook P (lineByLine chains n)
   below-all P n f = every-lines P chains n (λ l m. of-each P l (f l m))
 
-  above-all : (P : Hook → Type 0) (line : ℕ) → ((l : ℕ) → line < l → (h : Hook) → On rs l h → P h) → Every P (linesAbove chains line)
+  above-all : (P : Hook → Type 0) (line : ℕ) → ((l : ℕ) → line < l → (h : Hook) → On rs l h → P h) → EveryHook P (linesAbove chains line)
   above-all P line f =
       every-lines P (λ l. chains (suc line + l)) (lastLine - line) (λ l m. of-each P (suc line + l) (f (suc line + l) (omega arith)))
 
@@ -82,9 +82,9 @@ module _ (b : Reference) (s : Sound b) where
       let low = lineByLine chains line ++ chains line in
       let high = linesAbove chains line in
       let split : allLines chains ≡ low ++ high = lines-at chains line last ∙ sym (append-assoc (lineByLine chains line) (chains line) high) in
-      let up : Every (UpTo records line) low =
+      let up : EveryHook (UpTo records line) low =
       below-all (UpTo records line) (suc line) (λ l m h o. ((λ z. omega (arith, o .low)), omega (arith, line-kept (h .handle), o .loaded))) in
-      let over : Every (Above records line) high = above-all (Above records line) line (λ l m h o. omega (arith, line-kept (h .handle), o .loaded)) in
+      let over : EveryHook (Above records line) high = above-all (Above records line) line (λ l m h o. omega (arith, line-kept (h .handle), o .loaded)) in
       let joins : low ++ new ∷ high ≡ lineByLine chains line ++ ((chains line ++ new ∷ []) ++ high) = simp append-assoc in
       ap (λ (l : List Hook). hooked records (packed l) new) split
       ∙ packed-hook records low high new (omega (arith, ap (λ (l : List Hook). length l) split)) (rw (line-kept handle) up) (rw (line-kept handle) over)

@@ -18,15 +18,15 @@ use Rattle.window.specs.Window.{Window, startOf, isWindow, windowLength, isOpen
 use Rattle.window.proofs.Exponents.{window-range}
 use Rattle.window_list.specs.Meaning.{OpenAt}
 use Rattle.window_list.proofs.Meaning.{means}
-use Rattle.data_order.specs.Orders.{placed}
+use Rattle.data_order.specs.Orders.{cellDistance}
 use Rattle.data_window.specs.declared.find.Finding.{Finding}
 use Rattle.data_window.specs.declared.find.Finding.the-variants.{Found, Refused as NoWindow}
-use Rattle.data_cells.specs.declared.place.Place.the-variants.{At}
+use Rattle.data_cells.specs.declared.target.CellTarget.the-variants.{At}
 use Rattle.data_window.proofs.Searches.{Held, held}
 use Rattle.data_window.proofs.Meaning.{found-means}
 use Rattle.data_order.proofs.Windows.{inside-window}
 use Rattle.cell_layout.specs.Cells.{slotCells, cellsBefore}
-use Rattle.reference.specs.Reference.{Reference, entryOf, exponentOf, windowsOf, findFor, placeIn, placeFor}
+use Rattle.reference.specs.Reference.{Reference, entryField, exponentOf, windowsOf, findFor, cellTargetAt, cellTargetFor}
 
 -- an accepted access lies in the cells of one window of its function
 pub record InSlot (b : Reference) (w handle at : ℕ) : Type 0 where
@@ -35,7 +35,7 @@ pub record InSlot (b : Reference) (w handle at : ℕ) : Type 0 where
   pub low : 0 < handle
   pub high : handle ≤ length (b .records)
   pub six : base < bases
-  pub place : at ≡ cellsBefore (exponentOf (b .records)) (bases * (handle - 1) + base) + distance
+  pub start : at ≡ cellsBefore (exponentOf (b .records)) (bases * (handle - 1) + base) + distance
   pub inside : distance + w ≤ slotCells (exponentOf (b .records)) (bases * (handle - 1) + base)
 
 -- a window that is found, with the distance of an address in it: in every byte order the cells of the access are among the window's
@@ -43,7 +43,7 @@ pub record InWindow (b : Reference) (w handle base distance : ℕ) : Type 0 wher
   pub low : 0 < handle
   pub high : handle ≤ length (b .records)
   pub six : base < bases
-  pub inside : (order : ℕ) → placed order w distance + w ≤ slotCells (exponentOf (b .records)) (bases * (handle - 1) + base)
+  pub inside : (order : ℕ) → cellDistance order w distance + w ≤ slotCells (exponentOf (b .records)) (bases * (handle - 1) + base)
 
 -- a window starts at a multiple of 4, so that an aligned address is at an aligned distance from there
 aligned : (width : Width) (address m : ℕ) → address % bytes width ≡ 0 → (address - 4 * m) % bytes width ≡ 0
@@ -65,7 +65,7 @@ slot-of k i c h =
 
 -- an aligned address of an open window
 inside-open : (width : Width) (order k x c address : ℕ) → isOpen k x c ≡ true → startOf k x ≤ address → address < startOf k x + 2 ^ k
-    → address % bytes width ≡ 0 → placed order (bytes width) (address - startOf k x) + bytes width ≤ windowLength k
+    → address % bytes width ≡ 0 → cellDistance order (bytes width) (address - startOf k x) + bytes width ≤ windowLength k
 inside-open width order k x c address o l h a =
     let w = both-true (isWindow k) _ o .0 in
     let two = window-range k w .0 in
@@ -73,7 +73,7 @@ inside-open width order k x c address o l h a =
     rw w (inside-window order width k (address - startOf k x) two (omega arith) d)
 
 window-inside : (width : Width) (order count : ℕ) (k r : ℕ → ℕ → ℕ) (v : Window) (handle address : ℕ) → OpenAt count k r v → Held handle address v
-    → address % bytes width ≡ 0 → placed order (bytes width) (address - v .start) + bytes width ≤ slotCells k (bases * (handle - 1) + v .base)
+    → address % bytes width ≡ 0 → cellDistance order (bytes width) (address - v .start) + bytes width ≤ slotCells k (bases * (handle - 1) + v .base)
 window-inside width order count k r v handle address o h a =
     let i : v .handle ≡ o .function + 1 = ap (λ (u : Window). u .handle) (o .same) in
     let e : handle - 1 ≡ o .function = omega (arith, h .own) in
@@ -101,22 +101,22 @@ in-window b width space handle address base distance remaining e =
     }
 
 pub in-slot : (b : Reference) (width : Width) (space handle address at order : ℕ)
-    → placeFor b (bytes width) space handle address ≡ At at order → InSlot b (bytes width) handle at
-unfolding placeIn
+    → cellTargetFor b (bytes width) space handle address ≡ At at order → InSlot b (bytes width) handle at
+unfolding cellTargetAt
 in-slot b width space handle address at order e = by (findFor b (bytes width) space handle address) refl e
   where
-    by : (f : Finding) → findFor b (bytes width) space handle address ≡ f → placeIn b (bytes width) handle f ≡ At at order
+    by : (f : Finding) → findFor b (bytes width) space handle address ≡ f → cellTargetAt b (bytes width) handle f ≡ At at order
         → InSlot b (bytes width) handle at
     by (Found base distance remaining) g h =
         let w = in-window b width space handle address base distance remaining g in
-        let o = entryOf (b .records) (handle - 1) base 1 in
+        let o = entryField (b .records) (handle - 1) base 1 in
         record {
           base = base;
-          distance = placed o (bytes width) distance;
+          distance = cellDistance o (bytes width) distance;
           low = w .low;
           high = w .high;
           six = w .six;
-          place = cc h;
+          start = cc h;
           inside = w .inside o;
         }
     by (NoWindow r) g h = absurd (false≢true (cc h))

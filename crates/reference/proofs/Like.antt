@@ -11,7 +11,7 @@ use borrow.Author.Tests.{ltb-true, ltb-false}
 use Rattle.board.specs.Layout.{functionsMax, bases, windowsMax}
 use Rattle.numbers.specs.Numbers.{byteAt, bigBytes}
 use Rattle.numbers.proofs.Numbers.{big-same}
-use Rattle.data_cells.specs.Cells.{valueAt, cellsAfter}
+use Rattle.data_cells.specs.Cells.{cellsValue, cellsAfter}
 use Rattle.data_order.specs.Orders.{ordered}
 use Rattle.data_cells.proofs.Cells.{only-its-cells}
 use Rattle.cell_layout.specs.Cells.{slotCells, cellsBefore, total, zeroed}
@@ -48,7 +48,7 @@ like-both {h} {b} {d} {e} l m =
     let s : d .records ≡ b .records = ap (λ (a : Reference). a .records) r in
     record { few = l .few; rest = r; others = others-both (l .others) (rw s at (m .others)) }
 
--- the same stores into two lists of a length keep them equal at a place
+-- the same stores into two lists of a length keep them equal at a position
 set-same : (l m : List ℕ) (i v j : ℕ) → length l ≡ length m → getD l j 0 ≡ getD m j 0 → getD (set l i v) j 0 ≡ getD (set m i v) j 0
 set-same [] [] i v j e s = refl
 set-same [] (y ∷ m) i v j e s = absurd (omega arith)
@@ -107,16 +107,16 @@ module _ {h : ℕ} (b : Reference) (l m : List ℕ) (others : Others h (b .recor
         room = kept .room ∙ others .room;
         same = λ i c o n f k u.
             let apart = slots-apart (exponentOf (b .records)) (bases * i + c) t o (s .distance) w (λ e. n (omega (arith, s .low, s .six))) u (s .inside) in
-            kept .same _ (rw (s .place) apart) ∙ others .same i c o n f k u;
+            kept .same _ (rw (s .start) apart) ∙ others .same i c o n f k u;
       }
 
   -- through any other handle both read the same
   cells-same : (handle ≡ h → ⊥) → (j : ℕ) → j < w → getD l (at + j) 0 ≡ getD m (at + j) 0
   cells-same n j k =
-      let e : at + j ≡ cellsBefore (exponentOf (b .records)) (bases * (handle - 1) + s .base) + (s .distance + j) = omega (arith, s .place) in
+      let e : at + j ≡ cellsBefore (exponentOf (b .records)) (bases * (handle - 1) + s .base) + (s .distance + j) = omega (arith, s .start) in
       rw e
       (others .same (handle - 1) (s .base) (s .distance + j) (λ q. n (omega (arith, s .low))) (omega (arith, s .low, s .high)) (s .six)
       (omega (arith, s .inside)))
 
-  pub value-same : (handle ≡ h → ⊥) → valueAt order w at l ≡ valueAt order w at m
+  pub value-same : (handle ≡ h → ⊥) → cellsValue order w at l ≡ cellsValue order w at m
   value-same n = ap (ordered order w) (big-same w (byteAt l) (byteAt m) at at (λ j k. ap (λ v. v % 256) (cells-same n j k)))

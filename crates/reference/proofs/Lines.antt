@@ -8,11 +8,11 @@ use mathlib.Core.Path.{_≡_, refl, sym, _∙_, ap}
 use lib.Dec.{eqb}
 use borrow.Author.Tests.{eq-eqb, ne-eqb}
 use Rattle.interrupt_array.specs.Hooks.{Hook, lastLine}
-use Rattle.interrupt_hook.specs.Meaning.{Every}
+use Rattle.interrupt_hook.specs.Meaning.{EveryHook}
 use Rattle.reference.specs.Run.{lineByLine}
 use Rattle.reference.proofs.Among.{every-append}
 
-pub every-lines : (P : Hook → Type 0) (chains : ℕ → List Hook) (n : ℕ) → ((l : ℕ) → l < n → Every P (chains l)) → Every P (lineByLine chains n)
+pub every-lines : (P : Hook → Type 0) (chains : ℕ → List Hook) (n : ℕ) → ((l : ℕ) → l < n → EveryHook P (chains l)) → EveryHook P (lineByLine chains n)
 unfolding lineByLine
 every-lines P chains zero e = tt
 every-lines P chains (suc n) e =

@@ -5,31 +5,31 @@ use mathlib.Core.Bool.{Bool, true, false}
 use mathlib.Core.Path.{_≡_, refl}
 use mathlib.Core.List.{List, [], _∷_}
 use Rattle.reference.specs.Reference.{Reference, referenceStart}
-use Rattle.reference.specs.Run.{Asked, referenceAnswers, referenceAfter, partsOf}
-use Rattle.reference.specs.Claims.{Refinement, struckOut, left, leftHeard, Unseen, NonInterference}
+use Rattle.reference.specs.Run.{Request, referenceResponses, referenceAfter, partsOf}
+use Rattle.reference.specs.Claims.{Refinement, struckOut, withoutDataOf, responsesWithoutDataOf, Unseen, NonInterference}
 use Rattle.reference.proofs.Like.{Like, by-cells, like-both}
 use Rattle.reference.proofs.Quiet.{quiet}
 use Rattle.reference.proofs.Seen.{seen}
 
 -- the run on all calls, against the run on those that are left
-record Purged (h : ℕ) (b d : Reference) (cs : List Asked) : Type 0 where
-  heard : leftHeard h cs (referenceAnswers b cs) ≡ referenceAnswers d (left h cs)
-  like : Like h (referenceAfter b cs) (referenceAfter d (left h cs))
+record Purged (h : ℕ) (b d : Reference) (cs : List Request) : Type 0 where
+  answered : responsesWithoutDataOf h cs (referenceResponses b cs) ≡ referenceResponses d (withoutDataOf h cs)
+  like : Like h (referenceAfter b cs) (referenceAfter d (withoutDataOf h cs))
 
-purge-more : {h : ℕ} {b d : Reference} → Like h b d → (c : Asked) (cs : List Asked) → ((x y : Reference) → Like h x y → Purged h x y cs)
+purge-more : {h : ℕ} {b d : Reference} → Like h b d → (c : Request) (cs : List Request) → ((x y : Reference) → Like h x y → Purged h x y cs)
     → (t : Bool) → struckOut h (c .call) ≡ t → Purged h b d (c ∷ cs)
-unfolding left leftHeard referenceAnswers referenceAfter
+unfolding withoutDataOf responsesWithoutDataOf referenceResponses referenceAfter
 purge-more l c cs more true t =
     let r = more _ _ (quiet l (c .call) (c .own) t) in
-    record { heard = rw t (r .heard); like = rw t (r .like) }
+    record { answered = rw t (r .answered); like = rw t (r .like) }
 purge-more l c cs more false t =
     let n = seen l (c .call) (c .own) t in
     let r = more _ _ (n .like) in
-    record { heard = rw (t, n .answer, n .own, r .heard); like = rw t (r .like) }
+    record { answered = rw (t, n .answer, n .own, r .answered); like = rw t (r .like) }
 
-purge : {h : ℕ} {b d : Reference} → Like h b d → (cs : List Asked) → Purged h b d cs
-unfolding left leftHeard referenceAnswers referenceAfter
-purge l [] = record { heard = refl; like = l }
+purge : {h : ℕ} {b d : Reference} → Like h b d → (cs : List Request) → Purged h b d cs
+unfolding withoutDataOf responsesWithoutDataOf referenceResponses referenceAfter
+purge l [] = record { answered = refl; like = l }
 purge {h} l (c ∷ cs) = purge-more l c cs (λ x y m. purge m cs) (struckOut h (c .call)) refl
 
 parts-like : {h : ℕ} {b d : Reference} → Like h b d → Unseen h (b .records) (partsOf b) (partsOf d)
@@ -58,6 +58,6 @@ non-interference r h cells cs ds q =
     let p = purge (like-start h cells) cs in
     let s = purge (like-start h cells) ds in
     record {
-      heard = rw (c .heard, d .heard, p .heard, s .heard, q);
+      answered = rw (c .answered, d .answered, p .answered, s .answered, q);
       unseen = rw (c .stands, d .stands) (parts-like (like-both (p .like) (rw (← q) at (s .like))));
     }

@@ -10,12 +10,12 @@ use Rattle.board.specs.Handles.{isHandle}
 use Rattle.board.specs.Statuses.{deviceNotFound}
 use Rattle.window.specs.Window.{Window}
 use Rattle.window.specs.Kept.{unpacked}
-use Rattle.window_listing.specs.Listing.{listing, numberOf, valuesOf}
+use Rattle.window_listing.specs.Listing.{listing, listingNumber, listingValues}
 use Rattle.search.specs.Search.{searched, foundNumber}
 use Rattle.address_convert.specs.declared.convert.ToBus.{ToBus}
 use Rattle.address_convert.specs.declared.convert.ToCpu.{ToCpu}
 use Rattle.interrupt_array.specs.Hooks.{Hook, lastLine, chainOf}
-use Rattle.interrupt_list.specs.Listing.{listed, chainNumberOf, chainValuesOf}
+use Rattle.interrupt_list.specs.Listing.{listedHook, chainNumberOf, chainValuesOf}
 use Rattle.interrupt_list.specs.declared.listing.ChainListing.{ChainListing}
 use Rattle.card_used.specs.declared.used.CardUsed.{CardUsed}
 use Rattle.call.specs.declared.answer.Answer.{Answer}
@@ -39,19 +39,19 @@ search-stated q n (h ∷ hs) zero e = not-refused e
 search-stated q n (h ∷ hs) (suc m) e = search-stated q n hs m e
 
 -- a listing of windows refuses exactly past the end
-list-stated : (n : ℕ) (l : List Window) (m : ℕ) → Stated (ListWindow n) (answer (numberOf (listing l m)) (valuesOf (listing l m)))
+list-stated : (n : ℕ) (l : List Window) (m : ℕ) → Stated (ListWindow n) (answer (listingNumber (listing l m)) (listingValues (listing l m)))
 unfolding listing
 list-stated n [] m e = (inl refl, refl)
 list-stated n (w ∷ l) zero e = not-refused e
 list-stated n (w ∷ l) (suc m) e = list-stated n l m e
 
 -- and so does a listing of a chain, of a line that there is
-chain-stated : (line place : ℕ) (chain : List Hook) (n : ℕ)
-    → Stated (ListChain line place) (ofChain (chainNumberOf (listed chain n)) (chainValuesOf (listed chain n)))
-unfolding listed
-chain-stated line place [] n e = (inr (inl refl), refl)
-chain-stated line place (h ∷ hs) zero e = not-refused e
-chain-stated line place (h ∷ hs) (suc n) e = chain-stated line place hs n e
+chain-stated : (line index : ℕ) (chain : List Hook) (n : ℕ)
+    → Stated (ListChain line index) (ofChain (chainNumberOf (listedHook chain n)) (chainValuesOf (listedHook chain n)))
+unfolding listedHook
+chain-stated line index [] n e = (inr (inl refl), refl)
+chain-stated line index (h ∷ hs) zero e = not-refused e
+chain-stated line index (h ∷ hs) (suc n) e = chain-stated line index hs n e
 
 pub query-stated : (p : Parts) (q : Query) → Stated q (queried p q)
 unfolding queried
@@ -61,9 +61,9 @@ query-stated p (BusToCpu handle address) =
     ifTest (λ (t : ToCpu). Stated (BusToCpu handle address) (ofToCpu t)) (isHandle (p .header) handle) (λ g e. not-refused e) (λ g e. (inl refl, refl))
 query-stated p (CpuToBus handle address) =
     ifTest (λ (t : ToBus). Stated (CpuToBus handle address) (ofToBus t)) (isHandle (p .header) handle) (λ g e. not-refused e) (λ g e. (inl refl, refl))
-query-stated p (ListChain line place) =
-    ifTest (λ (l : ChainListing). Stated (ListChain line place) (ofChain (chainNumberOf l) (chainValuesOf l))) (ltb lastLine line)
-    (λ t e. (inl refl, refl)) (λ t. chain-stated line place (chainOf (p .records) (p .hooks) line) place)
+query-stated p (ListChain line index) =
+    ifTest (λ (l : ChainListing). Stated (ListChain line index) (ofChain (chainNumberOf l) (chainValuesOf l))) (ltb lastLine line)
+    (λ t e. (inl refl, refl)) (λ t. chain-stated line index (chainOf (p .records) (p .hooks) line) index)
 query-stated p (GetCardUsed handle) =
     ifTest (λ (u : CardUsed). Stated (GetCardUsed handle) (ofUsed u)) (isHandle (p .header) handle) (λ g e. not-refused e) (λ g e. (inl refl, refl))
 query-stated p (SpecialCycle bus message) = λ e. (inl refl, refl)

@@ -6,8 +6,8 @@ use mathlib.Core.List.{List}
 use borrow.Author.Tests.{eqb-true}
 use Rattle.numbers.specs.Numbers.{bytes}
 use Rattle.board.specs.Spaces.{spaceNumber}
-use Rattle.data_cells.specs.declared.place.Place.{Place}
-use Rattle.data_cells.specs.declared.place.Place.the-variants.{At, Refused as NoPlace}
+use Rattle.data_cells.specs.declared.target.CellTarget.{CellTarget}
+use Rattle.data_cells.specs.declared.target.CellTarget.the-variants.{At, Refused as NoPlace}
 use Rattle.call.specs.declared.call.Call.{Call}
 use Rattle.call.specs.declared.call.Access.the-variants.{Read, FastRead, Write}
 use Rattle.call.specs.declared.call.Call.the-variants.{Load, Reset, WriteImage, Config, Data, GetResource, HookInterrupt, UnhookInterrupt, SetCardUsed, Ask}
@@ -16,12 +16,12 @@ use Rattle.reference.specs.Claims.{struckOut}
 use Rattle.reference.proofs.InSlot.{InSlot, in-slot}
 use Rattle.reference.proofs.Like.{Like, others-hidden}
 
--- a place, if cells are found, lies in a window of the handle's function
-abbrev pub Lies : Reference → ℕ → ℕ → Place → Type 0
+-- the cells of an access, if there are any, lies in a window of the handle's function
+abbrev pub Lies : Reference → ℕ → ℕ → CellTarget → Type 0
 Lies b w handle p = (at order : ℕ) → p ≡ At at order → InSlot b w handle at
 
 -- a data write through h
-hidden : {h : ℕ} {b d : Reference} → Like h b d → (w handle value : ℕ) (own : List ℕ) → handle ≡ h → (p : Place) → Lies b w handle p
+hidden : {h : ℕ} {b d : Reference} → Like h b d → (w handle value : ℕ) (own : List ℕ) → handle ≡ h → (p : CellTarget) → Lies b w handle p
     → Like h (writeDataOf b w value own p .reference) d
 hidden {h} {b} {d} l w handle value own q (At at order) s =
     record {

@@ -16,21 +16,21 @@ use Rattle.config_read.specs.Target.{target}
 use Rattle.config_read.specs.declared.target.Target.{Target}
 use Rattle.config_read.specs.declared.target.Target.the-variants.{Function, Refused}
 use Rattle.config_write.specs.Write.{writeConfig}
-use Rattle.data_cells.specs.Cells.{dataPlace}
+use Rattle.data_cells.specs.Cells.{cellTarget}
 use Rattle.board.specs.Spaces.{spaceNumber}
 use Rattle.data_window.specs.Find.{statusOf}
 use Rattle.data_window.specs.declared.refusal.Refusal.{Refusal as DataRefusal}
 use Rattle.data_window.specs.declared.refusal.Refusal.the-variants.{BadHandle, ShortCells, NotAligned, Nothing, Contested, WidthMissing, PastBuffer}
 use Rattle.board.specs.declared.space.Space.{Space}
-use Rattle.data_cells.specs.declared.place.Place.{Place}
+use Rattle.data_cells.specs.declared.target.CellTarget.{CellTarget}
 use Rattle.image_layout.specs.Image.{imageSize}
 use Rattle.reset.specs.Reset.{reset}
 use Rattle.load.specs.Load.{load}
-use Rattle.image_writer.specs.Write.{write}
+use Rattle.image_writer.specs.Write.{writeImage}
 use Rattle.call.specs.declared.call.Access.the-variants.{Read, FastRead, Write}
 use Rattle.call.specs.declared.call.Call.the-variants.{Load, Reset, WriteImage, Config, Data, GetResource, HookInterrupt, UnhookInterrupt, SetCardUsed, Ask}
 use Rattle.call.specs.Answers.{ofStatus}
-use Rattle.reference.specs.State.{next, blanked, step}
+use Rattle.reference.specs.State.{outcome, blanked, step}
 use Rattle.reference.specs.Claims.{dataRefusals, Among, Refusal}
 use Rattle.reference.proofs.Tests.{ifEither, ifTarget, ifAt}
 use Rattle.reference.proofs.Verdicts.{stated, ifVerdict}
@@ -51,16 +51,16 @@ ifFunction {X} p w handle register f r h =
 write-kept : (p : Parts) (own : List ℕ) (width : Width) (w handle register value : ℕ)
     → Kept p (Config width handle register (Write value)) own
     (let o = writeConfig w (p .header) (p .records) (p .registers) (p .windows) handle register value in
-    next (ofStatus (o .status)) (withRegisters (o .registers) (o .windows) p) own)
+    outcome (ofStatus (o .status)) (withRegisters (o .registers) (o .windows) p) own)
 write-kept p own width w handle register value =
     ifFunction p w handle register (λ i e. rw e (λ f. not-refused f))
     (λ e. rw e (λ f. untouched (inr (inl refl)) refl))
     (λ e. rw e (λ f. untouched (inl refl) refl))
 
 -- where a data access stands
-abbrev placeAt : Parts → Space → Width → ℕ → BusAddress → Place
+abbrev placeAt : Parts → Space → Width → ℕ → BusAddress → CellTarget
 placeAt p space width handle address =
-    dataPlace (bytes width) (p .header) (p .records) (p .windows) (p .cellOffsets) (length (p .cells)) (spaceNumber space) handle (address .0)
+    cellTarget (bytes width) (p .header) (p .records) (p .windows) (p .cellOffsets) (length (p .cells)) (spaceNumber space) handle (address .0)
 
 -- it is refused with one of the stated numbers
 data-stated : (r : DataRefusal) → Among (statusOf r .0) dataRefusals
@@ -73,7 +73,7 @@ data-stated WidthMissing = inr (inr (inr (inl refl)))
 data-stated PastBuffer = inr (inl refl)
 
 pub refusal : Refusal
-unfolding step load reset write
+unfolding step load reset writeImage
 refusal p Load own =
     ifVerdict (stated own (length (p .cells))) (λ e. rw e (λ f. not-refused f))
     (λ i e. rw e (λ f. untouched (inr (inr (inr (inr (inr (inl refl)))))) (inr (refl, refl))))

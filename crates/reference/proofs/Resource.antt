@@ -9,7 +9,7 @@ use Rattle.board.specs.Handles.{isHandle}
 use Rattle.board.specs.Layout.{bases, entriesAt, entrySize, offsetAt, dmaOffsetAt}
 use Rattle.window_list.proofs.KeptArray.{kept-of}
 use Rattle.window.specs.Window.{isWindow}
-use Rattle.resource.specs.Resource.{windowsFrom, windowBases, Source, descriptorOf, described, Gave, resource, sourceOf}
+use Rattle.resource.specs.Resource.{windowsFrom, windowBases, Source, descriptorOf, described, ResourceOutcome, resource, sourceOf}
 use Rattle.call.specs.declared.call.Call.the-variants.{GetResource}
 use Rattle.call.specs.Answers.{ofStatus}
 use Rattle.reference.specs.State.{step}
@@ -91,15 +91,15 @@ module _ (b : Reference) (s : Sound b) where
   gives : (handle : ℕ) (own : List ℕ) → resource (isHandle (partsOf b .header) handle) (kept handle) own ≡ resource (isHandleOf b handle) (sourceFor b handle) own
   unfolding resource
   gives handle own =
-      ifAlike (λ (x y : Gave). x ≡ y) (handle-same b s handle) (λ g. resource-same (kept handle) (sourceFor b handle) (source-same handle g) own) (λ g. refl)
+      ifAlike (λ (x y : ResourceOutcome). x ≡ y) (handle-same b s handle) (λ g. resource-same (kept handle) (sourceFor b handle) (source-same handle g) own) (λ g. refl)
 
   pub same-resource : (handle : ℕ) (own : List ℕ) → Simulated b (GetResource handle) own
   unfolding step referenceStep
   same-resource handle own =
       let e = gives handle own in
       record {
-        answer = ap (λ (g : Gave). ofStatus (g .status)) e;
+        answer = ap (λ (g : ResourceOutcome). ofStatus (g .status)) e;
         parts = refl;
-        own = ap (λ (g : Gave). g .out) e;
+        own = ap (λ (g : ResourceOutcome). g .out) e;
         sound = s;
       }

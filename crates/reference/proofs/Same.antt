@@ -11,7 +11,7 @@ use Rattle.numbers.specs.Tables.{tableFrom}
 use Rattle.board.specs.Handles.{headerOf}
 use Rattle.board.specs.Layout.{functionsMax, bases, windowsMax, entriesAt, entrySize, registersEach, hookSize, markSize, exponent}
 use Rattle.numbers.proofs.Tables.{table-same}
-use Rattle.interrupt_array.specs.Hooks.{lastLine, numbers, packed}
+use Rattle.interrupt_array.specs.Hooks.{lastLine, hookNumbers, packed}
 use Rattle.card_used.specs.Used.{marksOf}
 use Rattle.cell_layout.specs.Cells.{total, cellsBefore, offsetsOf}
 use Rattle.image_layout.specs.Image.{imageRecord, imageSize, countOf, recordsOf, recordAt}
@@ -22,7 +22,7 @@ use Rattle.reset.specs.Reset.{firstRegister, registersOf, restarted}
 use Rattle.load.specs.Load.{padded, installed}
 use Rattle.cell_layout.proofs.Ranges.{offset-at, before-same}
 use Rattle.image_check.proofs.Accepted.{accepted-image, records-length, records-ruled}
-use Rattle.reference.specs.Reference.{recordOf, exponentOf, joined, fresh, imageRecords, imageFacts, verdict}
+use Rattle.reference.specs.Reference.{recordOf, exponentOf, joined, fresh, imageRecords, imageFacts, imageVerdict}
 use Rattle.reference.specs.Run.{lineByLine, partsOf}
 use Rattle.reference.proofs.Records.{Sized, Ruled, split-length, split-sized, split-joined, split-byte, split-record, bad-same}
 use Rattle.reference.proofs.Registers.{flat, kept-byte, kept-exponent, list-kept}
@@ -33,7 +33,7 @@ offsets-same k k′ e = table-same 0 0 (windowsMax + 1) (cellsBefore k) (cellsBe
 
 -- hooks and marks cleared
 pub no-hooks : packed (lineByLine (λ line. []) (lastLine + 1)) ≡ replicate (functionsMax * hookSize) 0
-unfolding lineByLine numbers
+unfolding lineByLine hookNumbers
 no-hooks = refl
 
 pub no-marks : marksOf (λ i. record { status = 0; callBack = 0 }) ≡ replicate (functionsMax * markSize) 0
@@ -79,8 +79,8 @@ facts-same image =
     )
 
 -- both judge an image alike
-pub verdict-same : (image : List ℕ) (room : ℕ) → checked image room ≡ verdict image room
-unfolding checked verdict
+pub verdict-same : (image : List ℕ) (room : ℕ) → checked image room ≡ imageVerdict image room
+unfolding checked imageVerdict
 verdict-same image room = rw (facts-same image)
 
 -- the records, one by one, of an image that the reference machine accepts with so many cells lent
@@ -89,7 +89,7 @@ pub record Whole (image : List ℕ) (room : ℕ) : Type 0 where
   pub bytes : joined (imageRecords image) ≡ recordsOf image
   pub fits : total (exponentOf (imageRecords image)) ≤ room
 
-pub accepted-whole : (image : List ℕ) (room : ℕ) → isAccepted (verdict image room) ≡ true → Whole image room
+pub accepted-whole : (image : List ℕ) (room : ℕ) → isAccepted (imageVerdict image room) ≡ true → Whole image room
 accepted-whole image room e =
     let a = accepted-image image room (rw (verdict-same image room) e) in
     let n = countOf image in

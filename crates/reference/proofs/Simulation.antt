@@ -18,7 +18,7 @@ use Rattle.image_refusals.specs.Refusals.{isAccepted}
 use Rattle.image_layout.specs.Image.{imageSize, imageOf}
 use Rattle.reset.specs.Reset.{reset}
 use Rattle.load.specs.Load.{padded, load}
-use Rattle.image_writer.specs.Write.{write}
+use Rattle.image_writer.specs.Write.{writeImage}
 use Rattle.reset.proofs.Zeroed.{zeroed-length}
 use Rattle.cell_layout.proofs.Ranges.{offset-at}
 use Rattle.call.specs.declared.call.Call.{Call}
@@ -27,13 +27,13 @@ use Rattle.call.specs.declared.call.Call.the-variants.{Load, Reset, WriteImage,
 use Rattle.call.specs.declared.call.Query.{Query}
 use Rattle.call.specs.declared.call.Query.the-variants.{FindPciDevice, FindPciClasscode, BusToCpu, CpuToBus, ListChain, GetCardUsed, SpecialCycle, GetRouting, SetInterrupt, ListWindow}
 use Rattle.reference.specs.State.{step, queried}
-use Rattle.reference.specs.Reference.{Reference, exponentOf, joined, fresh, imageRecords, windowsOf, imageBytes, verdict, blankedOf, referenceStep, referenceQueried, referenceStart}
+use Rattle.reference.specs.Reference.{Reference, exponentOf, joined, fresh, imageRecords, windowsOf, imageBytes, imageVerdict, blankedOf, referenceStep, referenceQueried, referenceStart}
 use Rattle.reference.specs.Run.{partsOf, start}
 use Rattle.reference.proofs.Tests.{ifEither}
 use Rattle.reference.proofs.Records.{Ruled, joined-length}
 use Rattle.reference.proofs.Same.{verdict-same, accepted-whole, installed-same, restart-same, no-hooks, no-marks}
 use Rattle.reference.proofs.Chained.{no-chains}
-use Rattle.reference.proofs.Sound.{Sound, sound-with, Simulated, Answered, as-told, answered, count-same}
+use Rattle.reference.proofs.Sound.{Sound, sound-with, Simulated, Answered, as-outcome, answered, count-same}
 use Rattle.reference.proofs.Configuration.{same-device, same-class, same-read, same-fast-read, same-write-config}
 use Rattle.reference.proofs.Data.{same-read-data, same-fast-read-data, same-write-data, same-bus-to-cpu, same-cpu-to-bus}
 use Rattle.reference.proofs.Resource.{same-resource}
@@ -50,7 +50,7 @@ module _ (b : Reference) (s : Sound b) where
   unfolding step referenceStep load partsOf
   same-load own =
       rw (verdict-same own (length (b .cells)))
-      (ifEither (isAccepted (verdict own (length (b .cells))))
+      (ifEither (isAccepted (imageVerdict own (length (b .cells))))
       (λ e.
       let w = accepted-whole own (length (b .cells)) e in
       rw (e, e) (record {
@@ -59,14 +59,14 @@ module _ (b : Reference) (s : Sound b) where
         own = refl;
         sound = fresh-sound (imageRecords own) (b .cells) (w .kept) (w .fits);
       }))
-      (λ e. rw (e, e) (as-told b s)))
+      (λ e. rw (e, e) (as-outcome b s)))
 
   same-reset : (own : List ℕ) → Simulated b Reset own
   unfolding step referenceStep reset partsOf
   same-reset own =
       rw (offset-at (exponentOf (b .records)) windowsMax (omega arith))
       (ifEither (ltb (length (b .cells)) (total (exponentOf (b .records))))
-      (λ e. rw e (as-told b s))
+      (λ e. rw e (as-outcome b s))
       (λ e. rw e (record {
         answer = refl;
         parts = restart-same (b .records) (s .kept .sized) (b .cells) (s .kept .few);
@@ -80,13 +80,13 @@ module _ (b : Reference) (s : Sound b) where
       rw (take-at j (replicate (functionsMax * recordSize - length j) 0) (recordSize * length (b .records)) (joined-length (b .records) (s .kept .sized)))
 
   same-write : (own : List ℕ) → Simulated b WriteImage own
-  unfolding step referenceStep write partsOf
+  unfolding step referenceStep writeImage partsOf
   same-write own =
       rw (count-same b s)
       (ifEither (ltb (length own) (imageSize (length (b .records))))
-      (λ e. rw e (as-told b s))
+      (λ e. rw e (as-outcome b s))
       (λ e.
-      ifEither (eqb (length (b .records)) 0) (λ z. rw (e, z) (as-told b s))
+      ifEither (eqb (length (b .records)) 0) (λ z. rw (e, z) (as-outcome b s))
       (λ z. rw (e, z) (record { answer = refl; parts = refl; own = ap (λ l. l ++ drop (imageSize (length (b .records))) own) image-same; sound = s }))))
 
   same-list : (n : ℕ) → Answered b (ListWindow n)
@@ -100,7 +100,7 @@ module _ (b : Reference) (s : Sound b) where
   same-query (FindPciClasscode class index) = same-class b s class index
   same-query (BusToCpu handle address) = same-bus-to-cpu b s handle address
   same-query (CpuToBus handle address) = same-cpu-to-bus b s handle address
-  same-query (ListChain line place) = same-list-chain b s line place
+  same-query (ListChain line index) = same-list-chain b s line index
   same-query (GetCardUsed handle) = same-get-used b s handle
   same-query (SpecialCycle bus message) = refl
   same-query (GetRouting handle) = refl

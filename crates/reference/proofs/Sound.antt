@@ -16,8 +16,8 @@ use Rattle.cell_layout.specs.Cells.{total}
 use Rattle.call.specs.declared.answer.Answer.{Answer}
 use Rattle.call.specs.declared.call.Call.{Call}
 use Rattle.call.specs.declared.call.Query.{Query}
-use Rattle.reference.specs.State.{Next, next, step, queried}
-use Rattle.reference.specs.Reference.{Reference, reference, Told, told, exponentOf, isHandleOf, referenceStep, referenceQueried}
+use Rattle.reference.specs.State.{Outcome, outcome, step, queried}
+use Rattle.reference.specs.Reference.{Reference, reference, ReferenceOutcome, referenceOutcome, exponentOf, isHandleOf, referenceStep, referenceQueried}
 use Rattle.reference.specs.Run.{partsOf}
 use Rattle.reference.proofs.Records.{Ruled}
 use Rattle.reference.proofs.Chained.{Chained}
@@ -32,7 +32,7 @@ pub sound-with : {b : Reference} {registers : ℕ → ℕ → ℕ} {cells : List
     → length (b .cells) ≤ length cells → Chained (b .records) chains → Sound (reference (b .records) registers cells chains used)
 sound-with s more c = record { kept = s .kept; fits = le-trans (s .fits) more; chained = c }
 
-pub record Same (n : Next) (t : Told) : Type 0 where
+pub record Same (n : Outcome) (t : ReferenceOutcome) : Type 0 where
   pub answer : n .answer ≡ t .answer
   pub parts : n .parts ≡ partsOf (t .reference)
   pub own : n .own ≡ t .own
@@ -48,10 +48,10 @@ Answered b q = queried (partsOf b) q ≡ referenceQueried b q
 
 module _ (b : Reference) (s : Sound b) where
   -- an answer beside the parts of the state itself
-  pub as-told : {a : Answer} {own : List ℕ} → Same (next a (partsOf b) own) (told a b own)
-  as-told = record { answer = refl; parts = refl; own = refl; sound = s }
+  pub as-outcome : {a : Answer} {own : List ℕ} → Same (outcome a (partsOf b) own) (referenceOutcome a b own)
+  as-outcome = record { answer = refl; parts = refl; own = refl; sound = s }
 
-  pub answered : {a a′ : Answer} {own : List ℕ} → a ≡ a′ → Same (next a (partsOf b) own) (told a′ b own)
+  pub answered : {a a′ : Answer} {own : List ℕ} → a ≡ a′ → Same (outcome a (partsOf b) own) (referenceOutcome a′ b own)
   answered e = record { answer = e; parts = refl; own = refl; sound = s }
 
   pub count-same : min (length (b .records)) functionsMax ≡ length (b .records)

@@ -12,8 +12,8 @@ use lib.Seq.{sets, length-sets}
 use borrow.Author.Tests.{ltb-false, ne-eqb, eqb-false}
 use Rattle.board.specs.Layout.{functionsMax, markSize}
 use Rattle.numbers.proofs.Stores.{sets-other}
-use Rattle.resource_descriptor.specs.Descriptor.{size, bytesOf}
-use Rattle.resource.specs.Resource.{Gave, windowBases, descriptors, resource}
+use Rattle.resource_descriptor.specs.Descriptor.{size, descriptorsBytes}
+use Rattle.resource.specs.Resource.{ResourceOutcome, windowBases, descriptors, resource}
 use Rattle.resource.proofs.Shows.{described-size}
 use Rattle.interrupt_array.specs.Hooks.{Hook, isRouted}
 use Rattle.interrupt_hook.specs.Meaning.{isAmong}
@@ -21,21 +21,21 @@ use Rattle.card_used.specs.Used.{Mark, markNumber}
 use Rattle.call.specs.declared.answer.Answer.{Answer}
 use Rattle.call.specs.declared.call.Call.the-variants.{GetResource, HookInterrupt, UnhookInterrupt, SetCardUsed}
 use Rattle.call.specs.Answers.{ofStatus}
-use Rattle.reference.specs.State.{next}
-use Rattle.reference.specs.Reference.{Reference, Told, told, isHandleOf, withCellsOf, sourceFor, lineFor, pinFor, withChainOf, withMarkOf, referenceStep}
+use Rattle.reference.specs.State.{outcome}
+use Rattle.reference.specs.Reference.{Reference, ReferenceOutcome, referenceOutcome, isHandleOf, withCellsOf, sourceFor, lineFor, pinFor, withChainOf, withMarkOf, referenceStep}
 use Rattle.reference.specs.Run.{partsOf}
-use Rattle.reference.specs.Claims.{Touch, mayTouch, Alike, Framed}
+use Rattle.reference.specs.Claims.{Touch, mayTouch, EqualOutside, Framed}
 use Rattle.reference.proofs.Tests.{ifTest}
 use Rattle.reference.proofs.Alike.{alike, touched, table-alike}
 use Rattle.reference.proofs.Sound.{handle-within}
 
 -- what the claim says of the reference machine's outcome
-abbrev pub Stays : Touch → Reference → List ℕ → Told → Type 0
-Stays t b own r = Framed t (partsOf b) own (next (r .answer) (partsOf (r .reference)) (r .own))
+abbrev pub Stays : Touch → Reference → List ℕ → ReferenceOutcome → Type 0
+Stays t b own r = Framed t (partsOf b) own (outcome (r .answer) (partsOf (r .reference)) (r .own))
 
 -- a call that leaves the board but for cells that it may touch, and of its own buffer what it may not touch
-pub cells-and-own : (t : Touch) (b : Reference) (cells own out : List ℕ) (a : Answer) → Alike (t .cells) cells (b .cells) → Alike (t .own) out own
-    → Stays t b own (told a (withCellsOf cells b) out)
+pub cells-and-own : (t : Touch) (b : Reference) (cells own out : List ℕ) (a : Answer) → EqualOutside (t .cells) cells (b .cells) → EqualOutside (t .own) out own
+    → Stays t b own (referenceOutcome a (withCellsOf cells b) out)
 unfolding partsOf
 cells-and-own t b cells own out a c k =
     record {
@@ -50,15 +50,15 @@ cells-and-own t b cells own out a c k =
       own = k;
     }
 
-pub own-only : (t : Touch) (b : Reference) (own out : List ℕ) (a : Answer) → Alike (t .own) out own → Stays t b own (told a b out)
+pub own-only : (t : Touch) (b : Reference) (own out : List ℕ) (a : Answer) → EqualOutside (t .own) out own → Stays t b own (referenceOutcome a b out)
 own-only t b own out a k = cells-and-own t b (b .cells) own out a (alike (t .cells) (b .cells)) k
 
-pub keeps : (t : Touch) (b : Reference) (own : List ℕ) (a : Answer) → Stays t b own (told a b own)
+pub keeps : (t : Touch) (b : Reference) (own : List ℕ) (a : Answer) → Stays t b own (referenceOutcome a b own)
 keeps t b own a = own-only t b own own a (alike (t .own) own)
 
 -- a call that leaves the board but for a chain
 chain-only : (t : Touch) (b : Reference) (own : List ℕ) (a : Answer) (line : ℕ) (chain : List Hook) → t .hooks ≡ true
-    → Stays t b own (told a (withChainOf line chain b) own)
+    → Stays t b own (referenceOutcome a (withChainOf line chain b) own)
 unfolding partsOf
 chain-only t b own a line chain h =
     record {
@@ -75,9 +75,9 @@ chain-only t b own a line chain h =
 
 module _ (b : Reference) (own : List ℕ) where
   -- descriptors stand at the front of the buffer
-  front : (handle : ℕ) → Alike (λ i. ltb i (size * length (windowBases (sourceFor b handle .exponent)))) (sets own 0 (bytesOf (descriptors (sourceFor b handle)))) own
+  front : (handle : ℕ) → EqualOutside (λ i. ltb i (size * length (windowBases (sourceFor b handle .exponent)))) (sets own 0 (descriptorsBytes (descriptors (sourceFor b handle)))) own
   front handle =
-      let v = bytesOf (descriptors (sourceFor b handle)) in
+      let v = descriptorsBytes (descriptors (sourceFor b handle)) in
       record {
         room = length-sets own 0 v;
         same = λ i u. sets-other own 0 v i (inr (rw (zero-add (length v), described-size (sourceFor b handle) (windowBases (sourceFor b handle .exponent))) (ltb-false i _ u)));
@@ -87,7 +87,7 @@ module _ (b : Reference) (own : List ℕ) where
   unfolding mayTouch referenceStep resource
   stays-resource handle =
       let t = mayTouch b (GetResource handle) own in
-      let P : Gave → Type 0 = λ g. Stays t b own (told (ofStatus (g .status)) b (g .out)) in
+      let P : ResourceOutcome → Type 0 = λ g. Stays t b own (referenceOutcome (ofStatus (g .status)) b (g .out)) in
       let n = length (windowBases (sourceFor b handle .exponent)) in
       ifTest P (isHandleOf b handle)
       (λ g.
@@ -119,7 +119,7 @@ module _ (b : Reference) (own : List ℕ) where
 
   -- every mark but the handle's
   mark-only : (handle : ℕ) (m : Mark) → isHandleOf b handle ≡ true
-      → Alike (λ j. eqb (j / markSize + 1) handle) (partsOf (withMarkOf (handle - 1) m b) .used) (partsOf b .used)
+      → EqualOutside (λ j. eqb (j / markSize + 1) handle) (partsOf (withMarkOf (handle - 1) m b) .used) (partsOf b .used)
   unfolding partsOf
   mark-only handle m g =
       let k = handle-within b handle g .0 in

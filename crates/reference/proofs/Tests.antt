@@ -13,8 +13,8 @@ use Rattle.config_read.specs.Target.{fits, target}
 use Rattle.config_read.specs.declared.target.Target.{Target}
 use Rattle.config_read.specs.declared.target.Target.the-variants.{Function, Refused}
 use Rattle.data_window.specs.declared.refusal.Refusal.{Refusal}
-use Rattle.data_cells.specs.declared.place.Place.{Place}
-use Rattle.data_cells.specs.declared.place.Place.the-variants.{At, Refused as NoPlace}
+use Rattle.data_cells.specs.declared.target.CellTarget.{CellTarget}
+use Rattle.data_cells.specs.declared.target.CellTarget.the-variants.{At, Refused as NoPlace}
 
 pub ifTest : {A : Type 0} (P : A → Type 0) (t : Bool) {x y : A} → (t ≡ true → P x) → (t ≡ false → P y) → P (cond t x y)
 ifTest P true p q = p refl
@@ -52,6 +52,6 @@ ifTarget P count w handle register f r h =
     (λ e. h)
 
 -- a data access stands at cells or is refused
-pub ifAt : {X : Type 0} (q : Place) → ((at order : ℕ) → q ≡ At at order → X) → ((r : Refusal) → q ≡ NoPlace r → X) → X
+pub ifAt : {X : Type 0} (q : CellTarget) → ((at order : ℕ) → q ≡ At at order → X) → ((r : Refusal) → q ≡ NoPlace r → X) → X
 ifAt (At at order) f r = f at order refl
 ifAt (NoPlace r) f g = g r refl

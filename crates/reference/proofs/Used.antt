@@ -7,17 +7,17 @@ use mathlib.Core.Path.{_≡_, refl, ap}
 use lib.Dec.{leb}
 use Rattle.board.specs.Layout.{functionsMax}
 use Rattle.board.specs.Parts.{withUsed}
-use Rattle.card_used.specs.Used.{newMark, usedOf, Marked}
+use Rattle.card_used.specs.Used.{newMark, usedOf, MarkOutcome}
 use Rattle.card_used.specs.declared.used.CardUsed.{CardUsed}
 use Rattle.card_used.proofs.Marks.{marks-at, marks-put}
 use Rattle.call.specs.declared.call.Call.the-variants.{SetCardUsed}
 use Rattle.call.specs.declared.call.Query.the-variants.{GetCardUsed}
 use Rattle.call.specs.Answers.{ofStatus, ofUsed}
-use Rattle.reference.specs.State.{next, step, queried}
-use Rattle.reference.specs.Reference.{Reference, Told, isHandleOf, referenceStep, referenceQueried}
+use Rattle.reference.specs.State.{outcome, step, queried}
+use Rattle.reference.specs.Reference.{Reference, ReferenceOutcome, isHandleOf, referenceStep, referenceQueried}
 use Rattle.reference.specs.Run.{partsOf}
 use Rattle.reference.proofs.Tests.{ifBoth, ifAlike}
-use Rattle.reference.proofs.Sound.{Sound, sound-with, Same, Simulated, Answered, as-told, handle-same, handle-within}
+use Rattle.reference.proofs.Sound.{Sound, sound-with, Same, Simulated, Answered, as-outcome, handle-same, handle-within}
 
 module _ (b : Reference) (s : Sound b) where
   -- the function of a good handle has a mark
@@ -32,7 +32,7 @@ module _ (b : Reference) (s : Sound b) where
   pub same-set-used : (handle status callBack : ℕ) (own : List ℕ) → Simulated b (SetCardUsed handle status callBack) own
   unfolding step referenceStep partsOf
   same-set-used handle status callBack own =
-      let Marks : Marked → Told → Type 0 = λ w t. Same (next (ofStatus (w .status)) (withUsed (w .used) (partsOf b)) own) t in
+      let Marks : MarkOutcome → ReferenceOutcome → Type 0 = λ w t. Same (outcome (ofStatus (w .status)) (withUsed (w .used) (partsOf b)) own) t in
       ifAlike Marks (handle-same b s handle)
       (λ g.
       ifBoth Marks (leb status 3)
@@ -43,5 +43,5 @@ module _ (b : Reference) (s : Sound b) where
         own = refl;
         sound = sound-with s (omega arith) (s .chained);
       })
-      (λ e. as-told b s))
-      (λ g. as-told b s)
+      (λ e. as-outcome b s))
+      (λ g. as-outcome b s)

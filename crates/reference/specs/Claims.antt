@@ -14,8 +14,8 @@ use Rattle.numbers.specs.declared.number.Width.{Width}
 use Rattle.board.specs.Statuses.{funcNotSupported, deviceNotFound, badRegisterNumber, bufferTooSmall, generalError, badHandle, setFailed}
 use Rattle.config_write.specs.Write.{movesWindows}
 use Rattle.board.specs.Spaces.{spaceNumber}
-use Rattle.data_cells.specs.declared.place.Place.{Place}
-use Rattle.data_cells.specs.declared.place.Place.the-variants.{At, Refused}
+use Rattle.data_cells.specs.declared.target.CellTarget.{CellTarget}
+use Rattle.data_cells.specs.declared.target.CellTarget.the-variants.{At, Refused}
 use Rattle.resource_descriptor.specs.Descriptor.{size}
 use Rattle.resource.specs.Resource.{windowBases}
 use Rattle.cell_layout.specs.Cells.{slotCells, cellsBefore, total}
@@ -29,9 +29,9 @@ use Rattle.call.specs.declared.call.Query.{Query}
 use Rattle.call.specs.declared.call.Query.the-variants.{FindPciDevice, FindPciClasscode, BusToCpu, CpuToBus, ListChain, GetCardUsed, SpecialCycle, GetRouting, SetInterrupt, ListWindow}
 use Rattle.call.specs.Answers.{zeros, one}
 use Rattle.call.specs.Calls.{writes}
-use Rattle.reference.specs.State.{Next, step}
-use Rattle.reference.specs.Reference.{Reference, exponentOf, imageRecords, placeFor, referenceStart}
-use Rattle.reference.specs.Run.{Asked, Heard, stepOn, answers, after, referenceAnswers, referenceAfter, partsOf, start}
+use Rattle.reference.specs.State.{Outcome, step}
+use Rattle.reference.specs.Reference.{Reference, exponentOf, imageRecords, cellTargetFor, referenceStart}
+use Rattle.reference.specs.Run.{Request, Response, stepOn, responses, partsAfter, referenceResponses, referenceAfter, partsOf, start}
 
 -- 1. REFUSAL. The numbers that a data call can be refused with, in the order of the checks.
 abbrev pub dataRefusals : List ℤ
@@ -48,7 +48,7 @@ queryRefusals (FindPciDevice id index) = deviceNotFound .0 ∷ []
 queryRefusals (FindPciClasscode class index) = deviceNotFound .0 ∷ []
 queryRefusals (BusToCpu handle address) = badHandle .0 ∷ []
 queryRefusals (CpuToBus handle address) = badHandle .0 ∷ []
-queryRefusals (ListChain line place) = generalError .0 ∷ deviceNotFound .0 ∷ []
+queryRefusals (ListChain line index) = generalError .0 ∷ deviceNotFound .0 ∷ []
 queryRefusals (GetCardUsed handle) = badHandle .0 ∷ []
 queryRefusals (SpecialCycle bus message) = funcNotSupported .0 ∷ []
 queryRefusals (GetRouting handle) = funcNotSupported .0 ∷ []
@@ -91,7 +91,7 @@ Filler (SetCardUsed handle status callBack) a = a .values ≡ zeros
 Filler (Ask query) a = a .values ≡ zeros
 
 -- A refused call gives a stated number and the filler, and leaves every lent part and its own buffer as they were.
-pub record Untouched (p : Parts) (c : Call) (lent : List ℕ) (n : Next) : Type 0 where
+pub record Untouched (p : Parts) (c : Call) (lent : List ℕ) (n : Outcome) : Type 0 where
   pub number : Among (n .answer .number) (refusals c)
   pub filler : Filler c (n .answer)
   pub parts : n .parts ≡ p
@@ -103,12 +103,12 @@ Refusal = (p : Parts) (c : Call) (own : List ℕ) → step p c own .answer .refu
 
 -- 2. REFINEMENT. Every run from the start, with any cells, is a run of the reference machine: every answer with its own buffer, and every lent part.
 -- The kept list among the parts is the list worked out afresh.
-pub record Refines (cells : List ℕ) (cs : List Asked) : Type 0 where
-  pub heard : answers (start cells) cs ≡ referenceAnswers (referenceStart cells) cs
-  pub stands : after (start cells) cs ≡ partsOf (referenceAfter (referenceStart cells) cs)
+pub record Refines (cells : List ℕ) (cs : List Request) : Type 0 where
+  pub answered : responses (start cells) cs ≡ referenceResponses (referenceStart cells) cs
+  pub stands : partsAfter (start cells) cs ≡ partsOf (referenceAfter (referenceStart cells) cs)
 
 abbrev pub Refinement : Type 0
-Refinement = (cells : List ℕ) (cs : List Asked) → Refines cells cs
+Refinement = (cells : List ℕ) (cs : List Request) → Refines cells cs
 
 -- 3. FRAME. What a call may touch: header numbers, the records with their cell offsets, registers, the kept window list, hooks, used marks, cells, its own bytes.
 pub record Touch : Type 0 where
@@ -131,13 +131,13 @@ abbrev pub touch : (ℕ → Bool) → Bool → (ℕ → Bool) → Bool → Bool 
 touch header records registers list hooks used cells own =
     record { header = header; records = records; registers = registers; list = list; hooks = hooks; used = used; cells = cells; own = own }
 
--- place j of the registers is one of the w bytes from a register of a handle on
+-- byte j of the registers is one of the w bytes from a register of a handle on
 abbrev pub addressed : ℕ → ℕ → ℕ → ℕ → Bool
 addressed w handle register j =
     eqb (j / registersEach + 1) handle && (leb register (j % registersEach) && ltb (j % registersEach) (register + w))
 
--- place j of the cell buffer is one of the w cells of an access
-abbrev pub accessed : ℕ → Place → ℕ → Bool
+-- byte j of the cell buffer is one of the w cells of an access
+abbrev pub accessed : ℕ → CellTarget → ℕ → Bool
 accessed w (At at order) j = leb at j && ltb j (at + w)
 accessed w (Refused r) j = false
 
@@ -156,8 +156,8 @@ mayTouch b WriteImage own = touch none false none false false none none (λ i. l
 mayTouch b (Config width handle register access) own =
     ifWrites access (touch none false (addressed (bytes width) handle register) (movesWindows (bytes width) register) false none none none)
 mayTouch b (Data space width handle address access) own =
-    let place = placeFor b (bytes width) (spaceNumber space) handle (address .0) in
-    ifWrites access (touch none false none false false none (accessed (bytes width) place) none)
+    let target = cellTargetFor b (bytes width) (spaceNumber space) handle (address .0) in
+    ifWrites access (touch none false none false false none (accessed (bytes width) target) none)
 mayTouch b (GetResource handle) own =
     touch none false none false false none none (λ i. ltb i (size * length (windowBases (exponentOf (b .records) (handle - 1)))))
 mayTouch b (HookInterrupt handle handler parameter) own = touch none false none false true none none none
@@ -166,28 +166,28 @@ mayTouch b (SetCardUsed handle status callBack) own = touch none false none fals
 mayTouch b (Ask query) own = nothing
 
 -- two lists have the same length, and the same wherever a touch is not allowed
-pub record Alike (t : ℕ → Bool) (l m : List ℕ) : Type 0 where
+pub record EqualOutside (t : ℕ → Bool) (l m : List ℕ) : Type 0 where
   pub room : length l ≡ length m
   pub same : (i : ℕ) → t i ≡ false → getD l i 0 ≡ getD m i 0
 
 -- what a call may not touch is equal before and after it
-pub record Framed (t : Touch) (p : Parts) (lent : List ℕ) (n : Next) : Type 0 where
-  pub header : Alike (t .header) (n .parts .header) (p .header)
+pub record Framed (t : Touch) (p : Parts) (lent : List ℕ) (n : Outcome) : Type 0 where
+  pub header : EqualOutside (t .header) (n .parts .header) (p .header)
   pub records : t .records ≡ false → n .parts .records ≡ p .records
   pub offsets : t .records ≡ false → n .parts .cellOffsets ≡ p .cellOffsets
-  pub registers : Alike (t .registers) (n .parts .registers) (p .registers)
+  pub registers : EqualOutside (t .registers) (n .parts .registers) (p .registers)
   pub list : t .list ≡ false → n .parts .windows ≡ p .windows
   pub hooks : t .hooks ≡ false → n .parts .hooks ≡ p .hooks
-  pub used : Alike (t .used) (n .parts .used) (p .used)
-  pub cells : Alike (t .cells) (n .parts .cells) (p .cells)
-  pub own : Alike (t .own) (n .own) lent
+  pub used : EqualOutside (t .used) (n .parts .used) (p .used)
+  pub cells : EqualOutside (t .cells) (n .parts .cells) (p .cells)
+  pub own : EqualOutside (t .own) (n .own) lent
 
 -- after every run
 abbrev pub Frame : Type 0
 Frame =
-    (cells : List ℕ) (cs : List Asked) (c : Asked)
-    → Framed (mayTouch (referenceAfter (referenceStart cells) cs) (c .call) (c .own)) (after (start cells) cs) (c .own)
-    (stepOn (after (start cells) cs) c)
+    (cells : List ℕ) (cs : List Request) (c : Request)
+    → Framed (mayTouch (referenceAfter (referenceStart cells) cs) (c .call) (c .own)) (partsAfter (start cells) cs) (c .own)
+    (stepOn (partsAfter (start cells) cs) c)
 
 -- 4. NONINTERFERENCE. The handle that a call goes through, and whether for data.
 pub data Through : Type 0 where
@@ -200,7 +200,7 @@ queryThrough (FindPciDevice id index) = nobody
 queryThrough (FindPciClasscode class index) = nobody
 queryThrough (BusToCpu handle address) = by handle
 queryThrough (CpuToBus handle address) = by handle
-queryThrough (ListChain line place) = nobody
+queryThrough (ListChain line index) = nobody
 queryThrough (GetCardUsed handle) = by handle
 queryThrough (SpecialCycle bus message) = nobody
 queryThrough (GetRouting handle) = by handle
@@ -228,15 +228,15 @@ isData h (dataBy handle) = eqb handle h
 abbrev pub struckOut : ℕ → Call → Bool
 struckOut h c = isData h (through c)
 
--- what is left of a run, and what is heard of that
-unfoldable pub left : ℕ → List Asked → List Asked
-left h [] = []
-left h (c ∷ cs) = cond (struckOut h (c .call)) (left h cs) (c ∷ left h cs)
+-- the calls of a run without those that are struck out, and the responses to them
+unfoldable pub withoutDataOf : ℕ → List Request → List Request
+withoutDataOf h [] = []
+withoutDataOf h (c ∷ cs) = cond (struckOut h (c .call)) (withoutDataOf h cs) (c ∷ withoutDataOf h cs)
 
-unfoldable pub leftHeard : ℕ → List Asked → List Heard → List Heard
-leftHeard h [] rs = []
-leftHeard h (c ∷ cs) [] = []
-leftHeard h (c ∷ cs) (r ∷ rs) = cond (struckOut h (c .call)) (leftHeard h cs rs) (r ∷ leftHeard h cs rs)
+unfoldable pub responsesWithoutDataOf : ℕ → List Request → List Response → List Response
+responsesWithoutDataOf h [] rs = []
+responsesWithoutDataOf h (c ∷ cs) [] = []
+responsesWithoutDataOf h (c ∷ cs) (r ∷ rs) = cond (struckOut h (c .call)) (responsesWithoutDataOf h cs rs) (r ∷ responsesWithoutDataOf h cs rs)
 
 -- two boards that no call but the data calls through h tells apart: every part but the cells, and the cells of every other function's windows; rs are the loaded records. Bytes past
 -- the total are nobody's, as a load of a smaller board leaves there what stood there.
@@ -253,14 +253,14 @@ pub record Unseen (h : ℕ) (rs : List (List ℕ)) (p q : Parts) : Type 0 where
       → getD (p .cells) (cellsBefore (exponentOf rs) (bases * i + b) + o) 0
       ≡ getD (q .cells) (cellsBefore (exponentOf rs) (bases * i + b) + o) 0
 
--- Two runs from equal cells that are equal once the data calls through h are struck out: what is heard of every other call is equal, and the boards that
+-- Two runs from equal cells that are equal once the data calls through h are struck out: the responses to every other call are equal, and the boards that
 -- stand after them are not told apart.
-pub record Apart (h : ℕ) (cells : List ℕ) (cs ds : List Asked) : Type 0 where
-  pub heard : leftHeard h cs (answers (start cells) cs) ≡ leftHeard h ds (answers (start cells) ds)
-  pub unseen : Unseen h (referenceAfter (referenceStart cells) cs .records) (after (start cells) cs) (after (start cells) ds)
+pub record Apart (h : ℕ) (cells : List ℕ) (cs ds : List Request) : Type 0 where
+  pub answered : responsesWithoutDataOf h cs (responses (start cells) cs) ≡ responsesWithoutDataOf h ds (responses (start cells) ds)
+  pub unseen : Unseen h (referenceAfter (referenceStart cells) cs .records) (partsAfter (start cells) cs) (partsAfter (start cells) ds)
 
 abbrev pub NonInterference : Type 0
-NonInterference = (h : ℕ) (cells : List ℕ) (cs ds : List Asked) → left h cs ≡ left h ds → Apart h cells cs ds
+NonInterference = (h : ℕ) (cells : List ℕ) (cs ds : List Request) → withoutDataOf h cs ≡ withoutDataOf h ds → Apart h cells cs ds
 
 -- DEMAND 3, as one claim.
 pub record Demand3 : Type 0 where

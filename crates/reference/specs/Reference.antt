@@ -22,11 +22,11 @@ use Rattle.address_convert.specs.Convert.{toCpu, toBus}
 use Rattle.data_access.specs.Data.{readAt, fastReadAt}
 use Rattle.board.specs.Spaces.{spaceNumber}
 use Rattle.data_window.specs.Find.{offers, find, statusOf}
-use Rattle.data_order.specs.Orders.{placed}
+use Rattle.data_order.specs.Orders.{cellDistance}
 use Rattle.data_window.specs.declared.find.Finding.{Finding}
 use Rattle.data_window.specs.declared.find.Finding.the-variants.{Found, Refused as NoWindow}
-use Rattle.data_cells.specs.declared.place.Place.{Place}
-use Rattle.data_cells.specs.declared.place.Place.the-variants.{At, Refused as NoPlace}
+use Rattle.data_cells.specs.declared.target.CellTarget.{CellTarget}
+use Rattle.data_cells.specs.declared.target.CellTarget.the-variants.{At, Refused as NoPlace}
 use Rattle.resource.specs.Resource.{Source, resource}
 use Rattle.interrupt_array.specs.Hooks.{Hook, hook, isRouted}
 use Rattle.interrupt_hook.specs.Chain.{hookChecks, unhookChecks}
@@ -69,8 +69,8 @@ abbrev pub recordOf : List (List ℕ) → ℕ → List ℕ
 recordOf records i = getD records i []
 
 -- a field of the entry of base register b: length exponent, byte order, widths
-abbrev pub entryOf : List (List ℕ) → ℕ → ℕ → ℕ → ℕ
-entryOf records i b field = byteAt (recordOf records i) (entriesAt + entrySize * b + field)
+abbrev pub entryField : List (List ℕ) → ℕ → ℕ → ℕ → ℕ
+entryField records i b field = byteAt (recordOf records i) (entriesAt + entrySize * b + field)
 
 abbrev pub exponentOf : List (List ℕ) → ℕ → ℕ → ℕ
 exponentOf records i b = byteAt (recordOf records i) (entriesAt + entrySize * b)
@@ -101,8 +101,8 @@ imageRecords image = split (countOf image) (recordsOf image)
 abbrev pub imageFacts : List ℕ → Facts
 imageFacts image = facts image (λ i. recordOk (recordOf (imageRecords image) i)) (exponentOf (imageRecords image))
 
-unfoldable pub verdict : List ℕ → ℕ → Verdict
-verdict image room = cond (ltb imageMax (length image)) (refused 1) (firstRefusal (imageFacts image) room)
+unfoldable pub imageVerdict : List ℕ → ℕ → Verdict
+imageVerdict image room = cond (ltb imageMax (length image)) (refused 1) (firstRefusal (imageFacts image) room)
 
 -- the window list, worked out afresh
 abbrev pub windowsOf : Reference → List Window
@@ -134,17 +134,17 @@ withRegistersOf r b = reference (b .records) r (b .cells) (b .chains) (b .used)
 abbrev pub findFor : Reference → ℕ → ℕ → ℕ → ℕ → Finding
 findFor b w space handle address =
     find (isHandleOf b handle) (ltb (length (b .cells)) (total (exponentOf (b .records))))
-    (λ base. offers w (entryOf (b .records) (handle - 1) base 2)) (windowsOf b) space w handle address
+    (λ base. offers w (entryField (b .records) (handle - 1) base 2)) (windowsOf b) space w handle address
 
 -- the first cell of an access, and the byte order: the cells of a window follow those of all windows before it
-unfoldable pub placeIn : Reference → ℕ → ℕ → Finding → Place
-placeIn b w handle (Found base distance remaining) =
-    let order = entryOf (b .records) (handle - 1) base 1 in
-    At (cellsBefore (exponentOf (b .records)) (bases * (handle - 1) + base) + placed order w distance) order
-placeIn b w handle (NoWindow r) = NoPlace r
+unfoldable pub cellTargetAt : Reference → ℕ → ℕ → Finding → CellTarget
+cellTargetAt b w handle (Found base distance remaining) =
+    let order = entryField (b .records) (handle - 1) base 1 in
+    At (cellsBefore (exponentOf (b .records)) (bases * (handle - 1) + base) + cellDistance order w distance) order
+cellTargetAt b w handle (NoWindow r) = NoPlace r
 
-abbrev pub placeFor : Reference → ℕ → ℕ → ℕ → ℕ → Place
-placeFor b w space handle address = placeIn b w handle (findFor b w space handle address)
+abbrev pub cellTargetFor : Reference → ℕ → ℕ → ℕ → ℕ → CellTarget
+cellTargetFor b w space handle address = cellTargetAt b w handle (findFor b w space handle address)
 
 abbrev pub withCellsOf : List ℕ → Reference → Reference
 withCellsOf cells b = reference (b .records) (b .registers) cells (b .chains) (b .used)
@@ -164,8 +164,8 @@ sourceFor b handle =
       handle = handle;
       windows = windowsOf b;
       exponent = exponentOf (b .records) i;
-      order = λ base. entryOf (b .records) i base 1;
-      widths = λ base. entryOf (b .records) i base 2;
+      order = λ base. entryField (b .records) i base 1;
+      widths = λ base. entryField (b .records) i base 2;
       register = baseRegister (b .registers i);
       offset = offsetOf (b .records) i;
       dmaOffset = dmaOffsetOf (b .records) i;
@@ -188,21 +188,21 @@ withMarkOf i m b =
     reference (b .records) (b .registers) (b .cells) (b .chains) (λ j. cond (eqb j i) m (b .used j))
 
 -- the answer, the next state, and the call's own buffer
-pub record Told : Type 0 where
+pub record ReferenceOutcome : Type 0 where
   pub answer : Answer
   pub reference : Reference
   pub own : List ℕ
 
-abbrev pub told : Answer → Reference → List ℕ → Told
-told a b own = record { answer = a; reference = b; own = own }
+abbrev pub referenceOutcome : Answer → Reference → List ℕ → ReferenceOutcome
+referenceOutcome a b own = record { answer = a; reference = b; own = own }
 
-abbrev pub writeOf : Reference → ℕ → ℕ → ℕ → List ℕ → Target → Told
-writeOf b w register value own (Function i) = told (ofStatus successful) (withRegistersOf (registersAfter b w i register value) b) own
-writeOf b w register value own (Refused s) = told (ofStatus s) b own
+abbrev pub writeOf : Reference → ℕ → ℕ → ℕ → List ℕ → Target → ReferenceOutcome
+writeOf b w register value own (Function i) = referenceOutcome (ofStatus successful) (withRegistersOf (registersAfter b w i register value) b) own
+writeOf b w register value own (Refused s) = referenceOutcome (ofStatus s) b own
 
-abbrev pub writeDataOf : Reference → ℕ → ℕ → List ℕ → Place → Told
-writeDataOf b w value own (At at order) = told (ofStatus successful) (withCellsOf (cellsAfter order w at value (b .cells)) b) own
-writeDataOf b w value own (NoPlace r) = told (ofStatus (statusOf r)) b own
+abbrev pub writeDataOf : Reference → ℕ → ℕ → List ℕ → CellTarget → ReferenceOutcome
+writeDataOf b w value own (At at order) = referenceOutcome (ofStatus successful) (withCellsOf (cellsAfter order w at value (b .cells)) b) own
+writeDataOf b w value own (NoPlace r) = referenceOutcome (ofStatus (statusOf r)) b own
 
 -- the board as a query sees it: of the cells how many there are, and no byte
 abbrev pub blankedOf : Reference → Reference
@@ -218,52 +218,52 @@ referenceQueried b (BusToCpu handle address) =
     ofToCpu (toCpu (isHandleOf b handle) (offsetOf (b .records) (handle - 1)) address)
 referenceQueried b (CpuToBus handle address) =
     ofToBus (toBus (isHandleOf b handle) (offsetOf (b .records) (handle - 1)) address)
-referenceQueried b (ListChain line place) =
-    ofChain (chainNumber (b .chains line) line place) (chainValues (b .chains line) line place)
+referenceQueried b (ListChain line index) =
+    ofChain (chainNumber (b .chains line) line index) (chainValues (b .chains line) line index)
 referenceQueried b (GetCardUsed handle) = ofUsed (usedOf (isHandleOf b handle) (b .used (handle - 1)))
 referenceQueried b (SpecialCycle bus message) = ofStatus funcNotSupported
 referenceQueried b (GetRouting handle) = ofStatus funcNotSupported
 referenceQueried b (SetInterrupt handle mode) = ofStatus funcNotSupported
 referenceQueried b (ListWindow n) = answer (listedNumber (windowsOf b) n) (listedValues (windowsOf b) n)
 
-unfoldable pub referenceStep : Reference → Call → List ℕ → Told
+unfoldable pub referenceStep : Reference → Call → List ℕ → ReferenceOutcome
 referenceStep b Load own =
-    let v = verdict own (length (b .cells)) in
-    cond (isAccepted v) (told (ofVerdict v) (fresh (imageRecords own) (b .cells)) own) (told (ofVerdict v) b own)
+    let v = imageVerdict own (length (b .cells)) in
+    cond (isAccepted v) (referenceOutcome (ofVerdict v) (fresh (imageRecords own) (b .cells)) own) (referenceOutcome (ofVerdict v) b own)
 referenceStep b Reset own =
-    cond (ltb (length (b .cells)) (total (exponentOf (b .records)))) (told (ofStatus bufferTooSmall) b own)
-    (told (ofStatus successful) (fresh (b .records) (b .cells)) own)
+    cond (ltb (length (b .cells)) (total (exponentOf (b .records)))) (referenceOutcome (ofStatus bufferTooSmall) b own)
+    (referenceOutcome (ofStatus successful) (fresh (b .records) (b .cells)) own)
 referenceStep b WriteImage own =
     let n = length (b .records) in
-    cond (ltb (length own) (imageSize n)) (told (answer (pos 1) zeros) b own)
-    (cond (eqb n 0) (told (answer (pos 3) zeros) b own)
-    (told (answer (pos 0) zeros) b (imageBytes (b .records) ++ drop (imageSize n) own)))
+    cond (ltb (length own) (imageSize n)) (referenceOutcome (answer (pos 1) zeros) b own)
+    (cond (eqb n 0) (referenceOutcome (answer (pos 3) zeros) b own)
+    (referenceOutcome (answer (pos 0) zeros) b (imageBytes (b .records) ++ drop (imageSize n) own)))
 referenceStep b (Config width handle register Read) own =
-    told (ofRead (readOf (b .registers) (bytes width) register (targetOf b (bytes width) handle register))) b own
+    referenceOutcome (ofRead (readOf (b .registers) (bytes width) register (targetOf b (bytes width) handle register))) b own
 referenceStep b (Config width handle register FastRead) own =
-    told (ofFastRead (fastReadOf (b .registers) (bytes width) register (targetOf b (bytes width) handle register))) b own
+    referenceOutcome (ofFastRead (fastReadOf (b .registers) (bytes width) register (targetOf b (bytes width) handle register))) b own
 referenceStep b (Config width handle register (Write value)) own =
     writeOf b (bytes width) register value own (targetOf b (bytes width) handle register)
 referenceStep b (Data space width handle address Read) own =
-    told (ofRead (readAt (bytes width) (b .cells) (placeFor b (bytes width) (spaceNumber space) handle (address .0)))) b own
+    referenceOutcome (ofRead (readAt (bytes width) (b .cells) (cellTargetFor b (bytes width) (spaceNumber space) handle (address .0)))) b own
 referenceStep b (Data space width handle address FastRead) own =
-    told (ofFastRead (fastReadAt (bytes width) (b .cells) (placeFor b (bytes width) (spaceNumber space) handle (address .0)))) b own
+    referenceOutcome (ofFastRead (fastReadAt (bytes width) (b .cells) (cellTargetFor b (bytes width) (spaceNumber space) handle (address .0)))) b own
 referenceStep b (Data space width handle address (Write value)) own =
-    writeDataOf b (bytes width) value own (placeFor b (bytes width) (spaceNumber space) handle (address .0))
+    writeDataOf b (bytes width) value own (cellTargetFor b (bytes width) (spaceNumber space) handle (address .0))
 referenceStep b (GetResource handle) own =
     let g = resource (isHandleOf b handle) (sourceFor b handle) own in
-    told (ofStatus (g .status)) b (g .out)
+    referenceOutcome (ofStatus (g .status)) b (g .out)
 referenceStep b (HookInterrupt handle handler parameter) own =
     let line = lineFor b handle in
     let chain = b .chains line in
     hookChecks (isHandleOf b handle) (isRouted (pinFor b handle) line) (not (isAmong handle chain))
-    (told (ofStatus successful) (withChainOf line (chain ++ hook handle handler parameter ∷ []) b) own) (λ s. told (ofStatus s) b own)
+    (referenceOutcome (ofStatus successful) (withChainOf line (chain ++ hook handle handler parameter ∷ []) b) own) (λ s. referenceOutcome (ofStatus s) b own)
 referenceStep b (UnhookInterrupt handle) own =
     let line = lineFor b handle in
     let chain = b .chains line in
     unhookChecks (isHandleOf b handle) (isAmong handle chain)
-    (told (ofStatus successful) (withChainOf line (without handle chain) b) own) (λ s. told (ofStatus s) b own)
+    (referenceOutcome (ofStatus successful) (withChainOf line (without handle chain) b) own) (λ s. referenceOutcome (ofStatus s) b own)
 referenceStep b (SetCardUsed handle status callBack) own =
     setChecks (isHandleOf b handle) status
-    (told (ofStatus successful) (withMarkOf (handle - 1) (newMark status callBack) b) own) (λ s. told (ofStatus s) b own)
-referenceStep b (Ask query) own = told (referenceQueried (blankedOf b) query) b own
+    (referenceOutcome (ofStatus successful) (withMarkOf (handle - 1) (newMark status callBack) b) own) (λ s. referenceOutcome (ofStatus s) b own)
+referenceStep b (Ask query) own = referenceOutcome (referenceQueried (blankedOf b) query) b own

@@ -1,4 +1,4 @@
--- Runs: what is asked, what is heard, and what stands after, of the program and of the reference machine.
+-- Runs: requests, responses, and what stands after them, of the program and of the reference machine.
 use Prim.Native.Nat.{ℕ, zero, suc, _+_, _*_, _/_, _%_}
 use mathlib.Core.List.{List, [], _∷_, _++_}
 use lib.ListN.{length, replicate}
@@ -13,46 +13,46 @@ use Rattle.cell_layout.specs.Cells.{offsetsOf}
 use Rattle.load.specs.Load.{padded}
 use Rattle.call.specs.declared.answer.Answer.{Answer}
 use Rattle.call.specs.declared.call.Call.{Call}
-use Rattle.reference.specs.State.{Next, step}
-use Rattle.reference.specs.Reference.{Reference, Told, exponentOf, joined, windowsOf, referenceStep}
+use Rattle.reference.specs.State.{Outcome, step}
+use Rattle.reference.specs.Reference.{Reference, ReferenceOutcome, exponentOf, joined, windowsOf, referenceStep}
 
 -- a call with its own buffer, and what comes back of both
-pub record Asked : Type 0 where
+pub record Request : Type 0 where
   pub call : Call
   pub own : List ℕ
 
-pub record Heard : Type 0 where
+pub record Response : Type 0 where
   pub answer : Answer
   pub own : List ℕ
 
-abbrev pub asked : Call → List ℕ → Asked
-asked c own = record { call = c; own = own }
+abbrev pub request : Call → List ℕ → Request
+request c own = record { call = c; own = own }
 
-abbrev pub heard : Answer → List ℕ → Heard
-heard a own = record { answer = a; own = own }
+abbrev pub response : Answer → List ℕ → Response
+response a own = record { answer = a; own = own }
 
-abbrev pub stepOn : Parts → Asked → Next
+abbrev pub stepOn : Parts → Request → Outcome
 stepOn p c = step p (c .call) (c .own)
 
-abbrev pub referenceOn : Reference → Asked → Told
+abbrev pub referenceOn : Reference → Request → ReferenceOutcome
 referenceOn b c = referenceStep b (c .call) (c .own)
 
 -- the program's run
-unfoldable pub answers : Parts → List Asked → List Heard
-answers p [] = []
-answers p (c ∷ cs) = heard (stepOn p c .answer) (stepOn p c .own) ∷ answers (stepOn p c .parts) cs
+unfoldable pub responses : Parts → List Request → List Response
+responses p [] = []
+responses p (c ∷ cs) = response (stepOn p c .answer) (stepOn p c .own) ∷ responses (stepOn p c .parts) cs
 
-unfoldable pub after : Parts → List Asked → Parts
-after p [] = p
-after p (c ∷ cs) = after (stepOn p c .parts) cs
+unfoldable pub partsAfter : Parts → List Request → Parts
+partsAfter p [] = p
+partsAfter p (c ∷ cs) = partsAfter (stepOn p c .parts) cs
 
 -- the reference machine's run
-unfoldable pub referenceAnswers : Reference → List Asked → List Heard
-referenceAnswers b [] = []
-referenceAnswers b (c ∷ cs) =
-    heard (referenceOn b c .answer) (referenceOn b c .own) ∷ referenceAnswers (referenceOn b c .reference) cs
+unfoldable pub referenceResponses : Reference → List Request → List Response
+referenceResponses b [] = []
+referenceResponses b (c ∷ cs) =
+    response (referenceOn b c .answer) (referenceOn b c .own) ∷ referenceResponses (referenceOn b c .reference) cs
 
-unfoldable pub referenceAfter : Reference → List Asked → Reference
+unfoldable pub referenceAfter : Reference → List Request → Reference
 referenceAfter b [] = b
 referenceAfter b (c ∷ cs) = referenceAfter (referenceOn b c .reference) cs
 

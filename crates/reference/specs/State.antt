@@ -11,7 +11,7 @@ use Rattle.numbers.specs.declared.number.Width.{Width}
 use Rattle.board.specs.declared.address.BusAddress.{BusAddress}
 use Rattle.board.specs.declared.space.Space.{Space}
 use Rattle.window.specs.Kept.{unpacked}
-use Rattle.window_listing.specs.Listing.{listing, numberOf, valuesOf}
+use Rattle.window_listing.specs.Listing.{listing, listingNumber, listingValues}
 use Rattle.config_read.specs.Read.{readConfig, fastReadConfig}
 use Rattle.search.specs.Search.{devices, classes, searched, foundNumber}
 use Rattle.config_write.specs.Write.{writeConfig}
@@ -26,7 +26,7 @@ use Rattle.card_used.specs.Used.{getCardUsed, setCardUsed}
 use Rattle.unsupported.specs.Unsupported.{specialCycle, getRouting, setInterrupt}
 use Rattle.reset.specs.Reset.{reset}
 use Rattle.load.specs.Load.{load}
-use Rattle.image_writer.specs.Write.{write}
+use Rattle.image_writer.specs.Write.{writeImage}
 use Rattle.call.specs.declared.answer.Answer.{Answer}
 use Rattle.call.specs.declared.call.Call.{Call}
 use Rattle.call.specs.declared.call.Access.{Access}
@@ -37,13 +37,13 @@ use Rattle.call.specs.declared.call.Query.the-variants.{FindPciDevice, FindPciC
 use Rattle.call.specs.Answers.{answer, zeros, ofStatus, ofVerdict, ofSearch, ofRead, ofFastRead, ofToCpu, ofToBus, ofChain, ofUsed}
 
 -- the answer, the lent parts, and the call's own buffer
-pub record Next : Type 0 where
+pub record Outcome : Type 0 where
   pub answer : Answer
   pub parts : Parts
   pub own : List ℕ
 
-abbrev pub next : Answer → Parts → List ℕ → Next
-next a p own = record { answer = a; parts = p; own = own }
+abbrev pub outcome : Answer → Parts → List ℕ → Outcome
+outcome a p own = record { answer = a; parts = p; own = own }
 
 -- the lent parts as a query sees them: of the cells how many there are, and no byte
 abbrev pub blanked : Parts → Parts
@@ -59,70 +59,70 @@ queried p (FindPciClasscode class index) =
     ofSearch (foundNumber (searched hs index))
 queried p (BusToCpu handle address) = ofToCpu (busToCpu (p .header) (p .records) handle address)
 queried p (CpuToBus handle address) = ofToBus (cpuToBus (p .header) (p .records) handle address)
-queried p (ListChain line place) =
-    let l = chainListing (chainOf (p .records) (p .hooks) line) line place in
+queried p (ListChain line index) =
+    let l = chainListing (chainOf (p .records) (p .hooks) line) line index in
     ofChain (chainNumberOf l) (chainValuesOf l)
 queried p (GetCardUsed handle) = ofUsed (getCardUsed (p .header) (p .used) handle)
 queried p (SpecialCycle bus message) = ofStatus (specialCycle bus message)
 queried p (GetRouting handle) = ofStatus (getRouting handle)
 queried p (SetInterrupt handle mode) = ofStatus (setInterrupt handle mode)
-queried p (ListWindow n) = let l = listing (unpacked (p .windows)) n in answer (numberOf l) (valuesOf l)
+queried p (ListWindow n) = let l = listing (unpacked (p .windows)) n in answer (listingNumber l) (listingValues l)
 
 -- a configuration access leaves registers and the kept list
-pub record Configured : Type 0 where
+pub record ConfigOutcome : Type 0 where
   pub answer : Answer
   pub registers : List ℕ
   pub windows : List ℕ
 
-abbrev pub configured : Answer → List ℕ → List ℕ → Configured
-configured a registers windows = record { answer = a; registers = registers; windows = windows }
+abbrev pub configOutcome : Answer → List ℕ → List ℕ → ConfigOutcome
+configOutcome a registers windows = record { answer = a; registers = registers; windows = windows }
 
-abbrev pub configAccess : List ℕ → List ℕ → List ℕ → List ℕ → Width → ℕ → ℕ → Access → Configured
+abbrev pub configAccess : List ℕ → List ℕ → List ℕ → List ℕ → Width → ℕ → ℕ → Access → ConfigOutcome
 configAccess header records registers windows width handle register Read =
-    configured (ofRead (readConfig (bytes width) header registers handle register)) registers windows
+    configOutcome (ofRead (readConfig (bytes width) header registers handle register)) registers windows
 configAccess header records registers windows width handle register FastRead =
-    configured (ofFastRead (fastReadConfig (bytes width) header registers handle register)) registers windows
+    configOutcome (ofFastRead (fastReadConfig (bytes width) header registers handle register)) registers windows
 configAccess header records registers windows width handle register (Write value) =
     let w = writeConfig (bytes width) header records registers windows handle register value in
-    configured (ofStatus (w .status)) (w .registers) (w .windows)
+    configOutcome (ofStatus (w .status)) (w .registers) (w .windows)
 
 -- a data access leaves cells
-pub record Stored : Type 0 where
+pub record DataOutcome : Type 0 where
   pub answer : Answer
   pub cells : List ℕ
 
-abbrev pub stored : Answer → List ℕ → Stored
-stored a cells = record { answer = a; cells = cells }
+abbrev pub dataOutcome : Answer → List ℕ → DataOutcome
+dataOutcome a cells = record { answer = a; cells = cells }
 
-abbrev pub dataAccess : List ℕ → List ℕ → List ℕ → List ℕ → List ℕ → Space → Width → ℕ → BusAddress → Access → Stored
+abbrev pub dataAccess : List ℕ → List ℕ → List ℕ → List ℕ → List ℕ → Space → Width → ℕ → BusAddress → Access → DataOutcome
 dataAccess header records windows offsets cells space width handle address Read =
-    stored (ofRead (readData (bytes width) header records windows offsets cells (spaceNumber space) handle (address .0))) cells
+    dataOutcome (ofRead (readData (bytes width) header records windows offsets cells (spaceNumber space) handle (address .0))) cells
 dataAccess header records windows offsets cells space width handle address FastRead =
-    stored (ofFastRead (fastReadData (bytes width) header records windows offsets cells (spaceNumber space) handle (address .0))) cells
+    dataOutcome (ofFastRead (fastReadData (bytes width) header records windows offsets cells (spaceNumber space) handle (address .0))) cells
 dataAccess header records windows offsets cells space width handle address (Write value) =
     let w = writeData (bytes width) header records windows offsets cells (spaceNumber space) handle (address .0) value in
-    stored (ofStatus (w .status)) (w .cells)
+    dataOutcome (ofStatus (w .status)) (w .cells)
 
-unfoldable pub step : Parts → Call → List ℕ → Next
-step p Load own = let w = load p own in next (ofVerdict (w .verdict)) (w .parts) own
-step p Reset own = let w = reset p in next (ofStatus (w .status)) (w .parts) own
-step p WriteImage own = let w = write (p .header) (p .records) own in next (answer (pos (w .number)) zeros) p (w .out)
+unfoldable pub step : Parts → Call → List ℕ → Outcome
+step p Load own = let w = load p own in outcome (ofVerdict (w .verdict)) (w .parts) own
+step p Reset own = let w = reset p in outcome (ofStatus (w .status)) (w .parts) own
+step p WriteImage own = let w = writeImage (p .header) (p .records) own in outcome (answer (pos (w .number)) zeros) p (w .out)
 step p (Config width handle register access) own =
     let w = configAccess (p .header) (p .records) (p .registers) (p .windows) width handle register access in
-    next (w .answer) (withRegisters (w .registers) (w .windows) p) own
+    outcome (w .answer) (withRegisters (w .registers) (w .windows) p) own
 step p (Data space width handle address access) own =
     let w = dataAccess (p .header) (p .records) (p .windows) (p .cellOffsets) (p .cells) space width handle address access in
-    next (w .answer) (withCells (w .cells) p) own
+    outcome (w .answer) (withCells (w .cells) p) own
 step p (GetResource handle) own =
     let g = getResource (p .header) (p .records) (p .registers) (p .windows) handle own in
-    next (ofStatus (g .status)) p (g .out)
+    outcome (ofStatus (g .status)) p (g .out)
 step p (HookInterrupt handle handler parameter) own =
     let w = hookInterrupt (p .header) (p .records) (p .hooks) handle handler parameter in
-    next (ofStatus (w .status)) (withHooks (w .hooks) p) own
+    outcome (ofStatus (w .status)) (withHooks (w .hooks) p) own
 step p (UnhookInterrupt handle) own =
     let w = unhookInterrupt (p .header) (p .hooks) handle in
-    next (ofStatus (w .status)) (withHooks (w .hooks) p) own
+    outcome (ofStatus (w .status)) (withHooks (w .hooks) p) own
 step p (SetCardUsed handle status callBack) own =
     let w = setCardUsed (p .header) (p .used) handle status callBack in
-    next (ofStatus (w .status)) (withUsed (w .used) p) own
-step p (Ask query) own = next (queried (blanked p) query) p own
+    outcome (ofStatus (w .status)) (withUsed (w .used) p) own
+step p (Ask query) own = outcome (queried (blanked p) query) p own

@@ -33,8 +33,8 @@ ghost use lib.ListN.{length};
 // The longest own buffer of a call in a trace.
 const OWN: usize = 65537;
 
-// A header as it was asked.
-type Asked = [u8; CALL_HEADER];
+// A header as it was request.
+type RequestHeader = [u8; CALL_HEADER];
 
 // Reads the own buffer of the call whose header stands in the room. Gives the line that is printed where the call is none, else 0.
 fn read_own(room: &mut [u8], own: u32) -> u32
@@ -50,20 +50,20 @@ fn read_own(room: &mut [u8], own: u32) -> u32
     0
 }
 
-// Reads the next call, its header into `asked` and the whole into the room; gives as above.
-fn read_call(asked: &mut Asked, room: &mut [u8]) -> u32
+// Reads the next call, its header into `request` and the whole into the room; gives as above.
+fn read_call(request: &mut RequestHeader, room: &mut [u8]) -> u32
     requires { ⌜ 65601 ≡ length (now room) ⌝ }
 {
-    let got = io::read_full(STDIN_FILENO, asked);
+    let got = io::read_full(STDIN_FILENO, request);
     if got == 0 {
         return CALLS;
     }
     if got < CALL_HEADER {
         return MALFORMED;
     }
-    match decode(asked) {
+    match decode(request) {
         Decoded::Known { call: _, own } => {
-            copy(asked, room);
+            copy(request, room);
             read_own(room, own)
         }
         Decoded::Malformed => MALFORMED,
@@ -71,12 +71,12 @@ fn read_call(asked: &mut Asked, room: &mut [u8]) -> u32
 }
 
 // Prints a call that was performed in place.
-fn print_call(asked: &Asked, call: &[u8]) {
-    let own = big_at(asked, OWN_LENGTH, Width::Long);
-    print(line_of(asked, call), own as u64, asked, call);
+fn print_call(request: &RequestHeader, call: &[u8]) {
+    let own = big_at(request, OWN_LENGTH, Width::Long);
+    print(line_of(request, call), own as u64, request, call);
 }
 
-// Prints the last line: with the calls where the script ended, else with the place where the replay stops.
+// Prints the last line: with the calls where the script ended, else with the position where the replay stops.
 fn print_end(line: u32, calls: u64, at: u64) {
     if line == CALLS {
         print(line, calls, b"", b"");
@@ -88,7 +88,7 @@ fn print_end(line: u32, calls: u64, at: u64) {
 // Performs and prints the calls up to the end of the input, from the board before the first load. A proved loop has to end, and nothing says that the input does: so it counts
 // calls up to a number that no trace reaches.
 pub(crate) fn replay(cells: &mut [u8]) {
-    let mut asked: Asked = [0u8; CALL_HEADER];
+    let mut request: RequestHeader = [0u8; CALL_HEADER];
     let mut room = [0u8; CALL_HEADER + OWN];
     let mut header: Header = [0u32; 4];
     let mut records: Records = [0u8; FUNCTIONS * RECORD];
@@ -100,7 +100,7 @@ pub(crate) fn replay(cells: &mut [u8]) {
     let mut calls: u64 = 0;
     let mut at: u64 = 0;
     while calls < u64::MAX {
-        let line = read_call(&mut asked, &mut room);
+        let line = read_call(&mut request, &mut room);
         if line != 0 {
             print_end(line, calls, at);
             return;
@@ -116,7 +116,7 @@ pub(crate) fn replay(cells: &mut [u8]) {
             &mut used,
             cells,
         );
-        print_call(&asked, &room);
+        print_call(&request, &room);
         at = wrapping_add_u64(at, took as u64);
         calls += 1;
     }

@@ -23,7 +23,7 @@ fn fields(d: Descriptor) {
     hexadecimal(d.dmaoffset, 4);
 }
 
-// The descriptors from a place on, up to the last mark; a function has no more of them than base registers.
+// The descriptors from a position on, up to the last mark; a function has no more of them than base registers.
 pub(crate) fn descriptors(bytes: &[u8], from: usize) {
     let mut at = from;
     let mut n = 0;

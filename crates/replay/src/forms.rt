@@ -24,9 +24,9 @@ pub(crate) const MALFORMED: u32 = 53;
 
 pub(crate) const CALLS: u32 = 54;
 
-// The place of a letter's number. Before N it is an argument, in the header of the call (docs/SCRIPT.md): a (A, C, E), b (B, D, F), H the handle. After N it is a value of the
+// The position of a letter's number. Before N it is an argument, in the header of the call (docs/SCRIPT.md): a (A, C, E), b (B, D, F), H the handle. After N it is a value of the
 // answer, which has no more than 32 bits: value 0 (P, Q, R), 1 (S), 2 (T), 3 (U), 4 (V).
-fn place(letter: u8) -> usize {
+fn position(letter: u8) -> usize {
     match letter {
         b'H' => 4,
         b'A' | b'C' | b'E' => 8,
@@ -67,17 +67,17 @@ fn number(call: &[u8]) {
     }
 }
 
-// Prints what a letter stands for: beside the places above, I is the register or bus, N a number that is handed over, W descriptors, X and Y the answer's number.
-fn put(letter: u8, n: u64, asked: &[u8], call: &[u8]) {
-    let size = size(letter, byte_at(asked, 1));
+// Prints what a letter stands for: beside the positions above, I is the register or bus, N a number that is handed over, W descriptors, X and Y the answer's number.
+fn put(letter: u8, n: u64, request: &[u8], call: &[u8]) {
+    let size = size(letter, byte_at(request, 1));
     match letter {
-        b'I' => hexadecimal(wide(byte_at(asked, 3)), 1),
+        b'I' => hexadecimal(wide(byte_at(request, 3)), 1),
         b'N' => decimal(n),
         b'W' => descriptors(call, CALL_HEADER),
         b'X' | b'Y' => number(call),
         b'Z' | b'\n' => {}
-        b'A'..=b'M' => show(asked, place(letter), size),
-        _ => show(call, place(letter), size),
+        b'A'..=b'M' => show(request, position(letter), size),
+        _ => show(call, position(letter), size),
     }
 }
 
@@ -94,7 +94,7 @@ fn ends(letter: u8, call: &[u8]) -> bool {
 }
 
 // Prints the form on a line, from 0.
-fn fill(forms: &[u8], line: u32, n: u64, asked: &[u8], call: &[u8]) {
+fn fill(forms: &[u8], line: u32, n: u64, request: &[u8], call: &[u8]) {
     let mut before = line;
     let mut from = 0;
     let mut i = 0;
@@ -108,7 +108,7 @@ fn fill(forms: &[u8], line: u32, n: u64, asked: &[u8], call: &[u8]) {
             from = i;
         } else {
             text(&forms[from..i]);
-            put(letter, n, asked, call);
+            put(letter, n, request, call);
             if ends(letter, call) {
                 return;
             }
@@ -118,8 +118,8 @@ fn fill(forms: &[u8], line: u32, n: u64, asked: &[u8], call: &[u8]) {
     }
 }
 
-// Prints a line of the table with a number, a call's header as it was asked, and the call as it was answered.
-pub(crate) fn print(line: u32, n: u64, asked: &[u8], call: &[u8]) {
+// Prints a line of the table with a number, a call's header as it was read, and the call as it was answered.
+pub(crate) fn print(line: u32, n: u64, request: &[u8], call: &[u8]) {
     let forms = b"
 load(N bytes) = Y, record R
 reset() = X
@@ -176,15 +176,15 @@ own buffer above 65537 bytes at byte N of the script
 malformed call at byte N of the script
 N calls
 ";
-    fill(forms, line, n, asked, call);
+    fill(forms, line, n, request, call);
     text(b"\n");
 }
 
 // The line of a call that was answered: by its operation, width and space; of a listed window by its space and mark.
-pub(crate) fn line_of(asked: &[u8], call: &[u8]) -> u32 {
-    let operation = wide(byte_at(asked, 0));
-    let width = wide(byte_at(asked, 1)) / 2;
-    let space = wide(byte_at(asked, 2));
+pub(crate) fn line_of(request: &[u8], call: &[u8]) -> u32 {
+    let operation = wide(byte_at(request, 0));
+    let width = wide(byte_at(request, 1)) / 2;
+    let space = wide(byte_at(request, 2));
     match operation {
         0..=5 => operation,
         6..=8 => 6 + 3 * (operation - 6) + width,

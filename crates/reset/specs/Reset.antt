@@ -35,11 +35,11 @@ pub record ResetOutcome : Type 0 where
   pub status : Status
   pub parts : Parts
 
-abbrev pub resetTo : Status → Parts → ResetOutcome
-resetTo s p = record { status = s; parts = p }
+abbrev pub resetOutcome : Status → Parts → ResetOutcome
+resetOutcome s p = record { status = s; parts = p }
 
 -- the board restarted from its loaded records; refused where the cells are shorter than its total
 unfoldable pub reset : Parts → ResetOutcome
 reset p =
-    cond (ltb (length (p .cells)) (getD (p .cellOffsets) windowsMax 0)) (resetTo bufferTooSmall p)
-    (resetTo successful (restarted (p .header) (p .records) (p .cellOffsets) (p .cells)))
+    cond (ltb (length (p .cells)) (getD (p .cellOffsets) windowsMax 0)) (resetOutcome bufferTooSmall p)
+    (resetOutcome successful (restarted (p .header) (p .records) (p .cellOffsets) (p .cells)))

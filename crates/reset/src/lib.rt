@@ -1,3 +1,5 @@
 // Reset: the lent parts of a board made anew from the loaded records.
-pub mod reset;
+mod call;
 mod restart;
+
+pub use call::reset;

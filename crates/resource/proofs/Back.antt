@@ -13,9 +13,9 @@ use Rattle.board.specs.Layout.{exponent}
 use Rattle.numbers.specs.Numbers.{byteAt, big, bigBytes}
 use Rattle.numbers.proofs.Numbers.{big-bytes, big-below}
 use Rattle.numbers.proofs.Tables.{table-length}
-use Rattle.window.specs.Window.{spaceOf}
+use Rattle.window.specs.Window.{registerSpace}
 use Rattle.resource_descriptor.specs.declared.descriptor.Descriptor.{Descriptor}
-use Rattle.resource_descriptor.specs.Descriptor.{flags, descriptorBytes, fieldsAt}
+use Rattle.resource_descriptor.specs.Descriptor.{flags, descriptorBytes, descriptorAt}
 use Rattle.window.specs.Window.{isWindow}
 use Rattle.resource.specs.Resource.{descriptorOf, sourceOf}
 use Rattle.window_start.proofs.Starts.{start-small}
@@ -38,7 +38,7 @@ pub record Small (d : Descriptor) : Type 0 where
   pub dmaoffset : d .dmaoffset < 2 ^ 32
 
 -- is read as it was stored
-pub fields-back : (d : Descriptor) → Small d → (before after : List ℕ) → fieldsAt (before ++ (descriptorBytes d ++ after)) (length before) ≡ d
+pub fields-back : (d : Descriptor) → Small d → (before after : List ℕ) → descriptorAt (before ++ (descriptorBytes d ++ after)) (length before) ≡ d
 unfolding descriptorBytes
 fields-back d small before after =
     let a = bigBytes 2 (d .next) in
@@ -81,7 +81,7 @@ parts-small records registers windows handle last b t =
     let s = sourceOf records registers windows handle in
     record {
       next = omega arith;
-      flags = flags-small last (eqb (spaceOf (s .register b)) 1) (s .widths b) (s .order b);
+      flags = flags-small last (eqb (registerSpace (s .register b)) 1) (s .widths b) (s .order b);
       start = start-small windows handle b;
       length = omega (arith, pow-mono {i = exponent records (handle - 1) b} (window-range _ t .1));
       offset = big-below 4 _ _;

@@ -15,11 +15,11 @@ use Rattle.board.specs.Layout.{bases}
 use Rattle.board.specs.Statuses.{successful, bufferTooSmall, generalError, badHandle}
 use Rattle.board.specs.declared.status.Status.{Status}
 use Rattle.numbers.proofs.Stores.{sets-other}
-use Rattle.window.specs.Window.{spaceOf}
+use Rattle.window.specs.Window.{registerSpace}
 use Rattle.resource_descriptor.specs.declared.descriptor.Descriptor.{Descriptor}
-use Rattle.resource_descriptor.specs.Descriptor.{size, descriptorBytes, bytesOf, fieldsAt}
+use Rattle.resource_descriptor.specs.Descriptor.{size, descriptorBytes, descriptorsBytes, descriptorAt}
 use Rattle.window.specs.Window.{isWindow}
-use Rattle.resource.specs.Resource.{windowsFrom, windowBases, Source, descriptorOf, described, descriptors, Gave, gave, resource, sourceOf, getResource}
+use Rattle.resource.specs.Resource.{windowsFrom, windowBases, Source, descriptorOf, described, descriptors, ResourceOutcome, resourceOutcome, resource, sourceOf, getResource}
 use Rattle.resource.specs.Meaning.{Shows, ResourceShows}
 use Rattle.resource_descriptor.proofs.Fields.{bytes-size}
 use Rattle.resource.proofs.Turns.{last-one}
@@ -28,18 +28,18 @@ use Rattle.resource.proofs.Back.{Small, fields-back, last-flag, parts-s
 -- the descriptors of some base registers, one after the other: the j-th is the j-th base register's
 pub nth-fields : (s : Source) (l : List ℕ) (j : ℕ) (before after : List ℕ) → j < length l
     → Small (descriptorOf s (eqb (suc j) (length l)) (getD l j 0))
-    → fieldsAt (before ++ (bytesOf (described s l) ++ after)) (length before + size * j) ≡ descriptorOf s (eqb (suc j) (length l)) (getD l j 0)
-unfolding described bytesOf
+    → descriptorAt (before ++ (descriptorsBytes (described s l) ++ after)) (length before + size * j) ≡ descriptorOf s (eqb (suc j) (length l)) (getD l j 0)
+unfolding described descriptorsBytes
 nth-fields s [] j before after h small = absurd (omega arith)
 nth-fields s (b ∷ l) zero before after h small =
     let d = descriptorOf s (eqb (length l) 0) b in
-    let r = bytesOf (described s l) in
+    let r = descriptorsBytes (described s l) in
     let q : before ++ ((descriptorBytes d ++ r) ++ after) ≡ before ++ (descriptorBytes d ++ (r ++ after)) = simp append-assoc in
     let t : eqb 1 (suc (length l)) ≡ eqb (length l) 0 = last-one 0 (length l) (suc (length l)) (omega arith) in
     rw (q, add-zero (length before), t) (fields-back d (rw t at small) before (r ++ after))
 nth-fields s (b ∷ l) (suc j) before after h small =
     let d = descriptorOf s (eqb (length l) 0) b in
-    let r = bytesOf (described s l) in
+    let r = descriptorsBytes (described s l) in
     let q : before ++ ((descriptorBytes d ++ r) ++ after) ≡ (before ++ descriptorBytes d) ++ (r ++ after) = simp append-assoc in
     let p : length before + size * suc j ≡ length (before ++ descriptorBytes d) + size * j = rw (length-append before (descriptorBytes d), bytes-size d) (omega arith) in
     let t : eqb (suc (suc j)) (suc (length l)) ≡ eqb (suc j) (length l) = eqb·suc-suc (suc j) (length l) in
@@ -59,12 +59,12 @@ windows-have k (suc n) b j h = by (isWindow (k b)) refl j h (windows-have k n (b
     by false e j h more = more j h
 
 -- the descriptors of n base registers have 20 n bytes
-pub described-size : (s : Source) (l : List ℕ) → length (bytesOf (described s l)) ≡ size * length l
-unfolding described bytesOf
+pub described-size : (s : Source) (l : List ℕ) → length (descriptorsBytes (described s l)) ≡ size * length l
+unfolding described descriptorsBytes
 described-size s [] = refl
 described-size s (b ∷ l) =
     let d = descriptorOf s (eqb (length l) 0) b in
-    length-append (descriptorBytes d) (bytesOf (described s l)) ∙ rw (bytes-size d, described-size s l) (omega arith)
+    length-append (descriptorBytes d) (descriptorsBytes (described s l)) ∙ rw (bytes-size d, described-size s l) (omega arith)
 
 module _ (records registers windows : List ℕ) (handle : ℕ) (out : List ℕ) where
   abbrev s : Source
@@ -74,35 +74,35 @@ module _ (records registers windows : List ℕ) (handle : ℕ) (out : List ℕ) 
   bs = windowBases (s .exponent)
 
   -- where there is room
-  shows : size * length bs ≤ length out → Shows s out (sets out 0 (bytesOf (descriptors s)))
+  shows : size * length bs ≤ length out → Shows s out (sets out 0 (descriptorsBytes (descriptors s)))
   shows h =
       record {
         fields = fields;
         last = λ j k.
             let b = getD bs j 0 in
             let f = ap (λ (d : Descriptor). d .flags) (fields j k) in
-            rw (f, last-flag (eqb (suc j) (length bs)) (eqb (spaceOf (s .register b)) 1) (s .widths b) (s .order b)) (eqb-true (suc j) (length bs), eq-eqb (suc j) (length bs));
-        room = length-sets out 0 (bytesOf (descriptors s));
-        rest = λ i k. sets-other out 0 (bytesOf (descriptors s)) i (inr (rw (zero-add (length (bytesOf (descriptors s))), described-size s bs) k));
+            rw (f, last-flag (eqb (suc j) (length bs)) (eqb (registerSpace (s .register b)) 1) (s .widths b) (s .order b)) (eqb-true (suc j) (length bs), eq-eqb (suc j) (length bs));
+        room = length-sets out 0 (descriptorsBytes (descriptors s));
+        rest = λ i k. sets-other out 0 (descriptorsBytes (descriptors s)) i (inr (rw (zero-add (length (descriptorsBytes (descriptors s))), described-size s bs) k));
       }
     where
       fields : (j : ℕ) → j < length bs
-          → fieldsAt (sets out 0 (bytesOf (descriptors s))) (size * j) ≡ descriptorOf s (eqb (suc j) (length bs)) (getD bs j 0)
+          → descriptorAt (sets out 0 (descriptorsBytes (descriptors s))) (size * j) ≡ descriptorOf s (eqb (suc j) (length bs)) (getD bs j 0)
       fields j k =
-          let v = bytesOf (descriptors s) in
+          let v = descriptorsBytes (descriptors s) in
           let fits : 0 + length v ≤ length out = rw (zero-add (length v), described-size s bs) h in
           let small = parts-small records registers windows handle (eqb (suc j) (length bs)) (getD bs j 0) (windows-have (s .exponent) bases 0 j k) in
           rw (sets-eq v out 0 fits, ← zero-add (size * j)) (nth-fields s bs j [] (drop (0 + length v) out) k small)
 
   -- what the checks choose, and what an accepted call is
-  abbrev chosen : Bool → Bool → Bool → Gave
+  abbrev chosen : Bool → Bool → Bool → ResourceOutcome
   chosen g z t =
-      cond g (cond z (gave generalError out) (cond t (gave bufferTooSmall out) (gave successful (sets out 0 (bytesOf (descriptors s)))))) (gave badHandle out)
+      cond g (cond z (resourceOutcome generalError out) (cond t (resourceOutcome bufferTooSmall out) (resourceOutcome successful (sets out 0 (descriptorsBytes (descriptors s)))))) (resourceOutcome badHandle out)
 
-  pub record Accepted (r : Gave) : Type 0 where
+  pub record Accepted (r : ResourceOutcome) : Type 0 where
     pub some : 0 < length bs
     pub room : size * length bs ≤ length out
-    pub written : r .out ≡ sets out 0 (bytesOf (descriptors s))
+    pub written : r .out ≡ sets out 0 (descriptorsBytes (descriptors s))
 
   accepted : (g z t : Bool) → eqb (length bs) 0 ≡ z → ltb (length out) (size * length bs) ≡ t → chosen g z t .status ≡ successful → Accepted (chosen g z t)
   accepted true false false e f h =

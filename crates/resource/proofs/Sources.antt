@@ -7,9 +7,9 @@ use mathlib.Core.Path.{_≡_, refl}
 use Rattle.board.specs.Layout.{bases}
 use Rattle.window.specs.Window.{isWindow}
 use Rattle.resource.specs.Resource.{windowsFrom, Source, descriptorOf, described, resource}
-use Rattle.resource.specs.Meaning.{Alike, ResourceDependsOn}
+use Rattle.resource.specs.Meaning.{SameSource, ResourceDependsOn}
 
-module _ (s t : Source) (a : Alike s t) where
+module _ (s t : Source) (a : SameSource s t) where
   windows-same : (n b : ℕ) → b + n ≤ bases → windowsFrom (s .exponent) n b ≡ windowsFrom (t .exponent) n b
   unfolding windowsFrom
   windows-same zero b h = refl

@@ -9,7 +9,7 @@ use lib.ListN.{length}
 use lib.Seq.{sets}
 use borrow.Author.Tests.{eq-eqb, ne-eqb}
 use Rattle.board.specs.Layout.{bases}
-use Rattle.resource_descriptor.specs.Descriptor.{size, descriptorBytes, bytesOf}
+use Rattle.resource_descriptor.specs.Descriptor.{size, descriptorBytes, descriptorsBytes}
 use Rattle.window.specs.Window.{isWindow}
 use Rattle.resource.specs.Resource.{windowsFrom, Source, descriptorOf, described}
 use Rattle.resource_descriptor.proofs.Fields.{after, bytes-size}
@@ -45,13 +45,13 @@ last-one n (suc m) count e = ne-eqb (n + 1) count (λ f. omega arith) ∙ sym (n
 
 -- the descriptor of base register b stored, those of the ones after it follow
 pub put-more : (s : Source) (out : List ℕ) (n b : ℕ) (l : List ℕ)
-    → sets (sets out (size * n) (descriptorBytes (descriptorOf s (eqb (length l) 0) b))) (size * (n + 1)) (bytesOf (described s l))
-    ≡ sets out (size * n) (bytesOf (described s (b ∷ l)))
-unfolding described bytesOf
+    → sets (sets out (size * n) (descriptorBytes (descriptorOf s (eqb (length l) 0) b))) (size * (n + 1)) (descriptorsBytes (described s l))
+    ≡ sets out (size * n) (descriptorsBytes (described s (b ∷ l)))
+unfolding described descriptorsBytes
 put-more s out n b l =
     let d = descriptorOf s (eqb (length l) 0) b in
-    after out (size * n) size (size * (n + 1)) (descriptorBytes d) (bytesOf (described s l)) (bytes-size d) (omega arith)
+    after out (size * n) size (size * (n + 1)) (descriptorBytes d) (descriptorsBytes (described s l)) (bytes-size d) (omega arith)
 
-pub put-end : (s : Source) (out : List ℕ) (i : ℕ) → sets out i (bytesOf (described s [])) ≡ out
-unfolding described bytesOf
+pub put-end : (s : Source) (out : List ℕ) (i : ℕ) → sets out i (descriptorsBytes (described s [])) ≡ out
+unfolding described descriptorsBytes
 put-end s out i = refl

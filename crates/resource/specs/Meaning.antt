@@ -9,15 +9,15 @@ use lib.ListN.{length, getD}
 use Rattle.board.specs.Layout.{bases}
 use Rattle.numbers.specs.Numbers.{byteAt}
 use Rattle.board.specs.Statuses.{successful}
-use Rattle.resource_descriptor.specs.Descriptor.{size, fieldsAt, isLast}
+use Rattle.resource_descriptor.specs.Descriptor.{size, descriptorAt, isLast}
 use Rattle.resource.specs.Resource.{Source, windowBases, descriptorOf, resource, sourceOf, getResource}
 
 -- of a buffer before and after: the j-th window's base register has its descriptor, all six fields, at 20 j, marked exactly if it is the last; the rest stays
 pub record Shows (s : Source) (before after : List ℕ) : Type 0 where
   pub fields : (j : ℕ) → j < length (windowBases (s .exponent))
-      → fieldsAt after (size * j) ≡ descriptorOf s (eqb (suc j) (length (windowBases (s .exponent)))) (getD (windowBases (s .exponent)) j 0)
+      → descriptorAt after (size * j) ≡ descriptorOf s (eqb (suc j) (length (windowBases (s .exponent)))) (getD (windowBases (s .exponent)) j 0)
   pub last : (j : ℕ) → j < length (windowBases (s .exponent))
-      → (isLast (fieldsAt after (size * j)) ≡ true) ↔ (suc j ≡ length (windowBases (s .exponent)))
+      → (isLast (descriptorAt after (size * j)) ≡ true) ↔ (suc j ≡ length (windowBases (s .exponent)))
   pub room : length after ≡ length before
   pub rest : (i : ℕ) → size * length (windowBases (s .exponent)) ≤ i → byteAt after i ≡ byteAt before i
 
@@ -29,7 +29,7 @@ ResourceShows =
     → Shows (sourceOf records registers windows handle) out (getResource header records registers windows handle out .out)
 
 -- two functions of equal handle, windows and offsets whose base registers are alike
-pub record Alike (s t : Source) : Type 0 where
+pub record SameSource (s t : Source) : Type 0 where
   pub handle : s .handle ≡ t .handle
   pub windows : s .windows ≡ t .windows
   pub exponent : (b : ℕ) → b < bases → s .exponent b ≡ t .exponent b
@@ -41,4 +41,4 @@ pub record Alike (s t : Source) : Type 0 where
 
 -- have equal descriptors: base registers past the six play no part
 abbrev pub ResourceDependsOn : Type 0
-ResourceDependsOn = (good : Bool) (s t : Source) (out : List ℕ) → Alike s t → resource good s out ≡ resource good t out
+ResourceDependsOn = (good : Bool) (s t : Source) (out : List ℕ) → SameSource s t → resource good s out ≡ resource good t out

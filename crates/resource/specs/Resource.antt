@@ -10,10 +10,10 @@ use Rattle.board.specs.Layout.{bases, exponent, byteOrder, widths, offset, dmaO
 use Rattle.board.specs.Statuses.{successful, bufferTooSmall, generalError, badHandle}
 use Rattle.board.specs.declared.status.Status.{Status}
 use Rattle.window.specs.Kept.{unpacked}
-use Rattle.window.specs.Window.{Window, spaceOf, isWindow}
+use Rattle.window.specs.Window.{Window, registerSpace, isWindow}
 use Rattle.window_start.specs.Start.{startIn}
 use Rattle.resource_descriptor.specs.declared.descriptor.Descriptor.{Descriptor}
-use Rattle.resource_descriptor.specs.Descriptor.{size, flags, bytesOf}
+use Rattle.resource_descriptor.specs.Descriptor.{size, flags, descriptorsBytes}
 
 -- of n base registers from b on, those that have a window; k is their length exponent
 unfoldable pub windowsFrom : (ℕ → ℕ) → ℕ → ℕ → List ℕ
@@ -39,7 +39,7 @@ abbrev pub descriptorOf : Source → Bool → ℕ → Descriptor
 descriptorOf s last b =
     record {
       next = size;
-      flags = flags last (eqb (spaceOf (s .register b)) 1) (s .widths b) (s .order b);
+      flags = flags last (eqb (registerSpace (s .register b)) 1) (s .widths b) (s .order b);
       start = startIn (s .windows) (s .handle) b;
       length = 2 ^ s .exponent b;
       offset = s .offset;
@@ -55,21 +55,21 @@ abbrev pub descriptors : Source → List Descriptor
 descriptors s = described s (windowBases (s .exponent))
 
 -- a status, and the lent buffer
-pub record Gave : Type 0 where
+pub record ResourceOutcome : Type 0 where
   pub status : Status
   pub out : List ℕ
 
-abbrev pub gave : Status → List ℕ → Gave
-gave status out = record { status = status; out = out }
+abbrev pub resourceOutcome : Status → List ℕ → ResourceOutcome
+resourceOutcome status out = record { status = status; out = out }
 
 -- the checks in their order, of a handle that is good or not; bytes past the last descriptor stay
-unfoldable pub resource : Bool → Source → List ℕ → Gave
+unfoldable pub resource : Bool → Source → List ℕ → ResourceOutcome
 resource good s out =
     let n = length (windowBases (s .exponent)) in
     cond good
-    (cond (eqb n 0) (gave generalError out)
-    (cond (ltb (length out) (size * n)) (gave bufferTooSmall out) (gave successful (sets out 0 (bytesOf (descriptors s))))))
-    (gave badHandle out)
+    (cond (eqb n 0) (resourceOutcome generalError out)
+    (cond (ltb (length out) (size * n)) (resourceOutcome bufferTooSmall out) (resourceOutcome successful (sets out 0 (descriptorsBytes (descriptors s))))))
+    (resourceOutcome badHandle out)
 
 -- of the lent parts
 abbrev pub sourceOf : List ℕ → List ℕ → List ℕ → ℕ → Source
@@ -86,6 +86,6 @@ sourceOf records registers windows handle =
       dmaOffset = dmaOffset records i;
     }
 
-abbrev pub getResource : List ℕ → List ℕ → List ℕ → List ℕ → ℕ → List ℕ → Gave
+abbrev pub getResource : List ℕ → List ℕ → List ℕ → List ℕ → ℕ → List ℕ → ResourceOutcome
 getResource header records registers windows handle out =
     resource (isHandle header handle) (sourceOf records registers windows handle) out

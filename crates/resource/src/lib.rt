@@ -1,2 +1,4 @@
 // Descriptors of a function's windows.
-pub mod resource;
+mod resource;
+
+pub use resource::get_resource;

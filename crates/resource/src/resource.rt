@@ -28,8 +28,8 @@ ghost use lib.Seq.{sets};
 ghost use Prim.Native.Nat.{_-_};
 ghost use Rattle.board.specs.Layout.{exponent};
 ghost use Rattle.window.specs.Window.{isWindow};
-ghost use Rattle.resource_descriptor.specs.Descriptor.{bytesOf};
-ghost use Rattle.resource.specs.Resource.{windowBases, descriptorOf, descriptors, sourceOf, gave, getResource};
+ghost use Rattle.resource_descriptor.specs.Descriptor.{descriptorsBytes};
+ghost use Rattle.resource.specs.Resource.{windowBases, descriptorOf, descriptors, sourceOf, resourceOutcome, getResource};
 
 // How many windows a function has.
 fn window_count(records: &Records, function: u32) -> usize
@@ -88,7 +88,7 @@ fn put_all(
     out: &mut [u8],
 )
     requires { ⌜ count ≡ length (windowBases (exponent (now records) (handle - 1))) ⌝ }
-    ensures { λ _. ⌜ now (out .exit) ≡ sets (now (out .entry)) 0 (bytesOf (descriptors (sourceOf (now (records .entry)) (now (registers .entry)) (now (windows .entry)) handle))) ⌝ }
+    ensures { λ _. ⌜ now (out .exit) ≡ sets (now (out .entry)) 0 (descriptorsBytes (descriptors (sourceOf (now (records .entry)) (now (registers .entry)) (now (windows .entry)) handle))) ⌝ }
 {
     let function = place(handle);
     let mut n = 0;
@@ -114,7 +114,7 @@ pub fn get_resource(
     handle: u32,
     out: &mut [u8],
 ) -> Status
-    ensures { λ r. ⌜ gave r (now (out .exit)) ≡ getResource (now (header .entry)) (now (records .entry)) (now (registers .entry)) (now (windows .entry)) handle (now (out .entry)) ⌝ }
+    ensures { λ r. ⌜ resourceOutcome r (now (out .exit)) ≡ getResource (now (header .entry)) (now (records .entry)) (now (registers .entry)) (now (windows .entry)) handle (now (out .entry)) ⌝ }
 {
     let good = is_handle(header, handle);
     let count = window_count(records, place(handle));

@@ -23,13 +23,13 @@ unfoldable pub descriptorBytes : Descriptor → List ℕ
 descriptorBytes d =
     bigBytes 2 (d .next) ++ (bigBytes 2 (d .flags) ++ (bigBytes 4 (d .start) ++ (bigBytes 4 (d .length) ++ (bigBytes 4 (d .offset) ++ bigBytes 4 (d .dmaoffset)))))
 
-unfoldable pub bytesOf : List Descriptor → List ℕ
-bytesOf [] = []
-bytesOf (d ∷ ds) = descriptorBytes d ++ bytesOf ds
+unfoldable pub descriptorsBytes : List Descriptor → List ℕ
+descriptorsBytes [] = []
+descriptorsBytes (d ∷ ds) = descriptorBytes d ++ descriptorsBytes ds
 
--- the fields that stand in bytes at a place
-abbrev pub fieldsAt : List ℕ → ℕ → Descriptor
-fieldsAt l at =
+-- the fields that stand in bytes at a position
+abbrev pub descriptorAt : List ℕ → ℕ → Descriptor
+descriptorAt l at =
     record {
       next = big 2 (byteAt l) at;
       flags = big 2 (byteAt l) (at + 2);

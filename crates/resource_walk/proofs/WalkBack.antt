@@ -10,11 +10,11 @@ use lib.ListN.{length, getD, drop, length-append}
 use lib.Seq.{sets-eq}
 use borrow.Author.Tests.{le-leb}
 use Rattle.board.specs.Layout.{bases}
-use Rattle.window.specs.Window.{spaceOf}
+use Rattle.window.specs.Window.{registerSpace}
 use Rattle.resource_descriptor.specs.declared.descriptor.Descriptor.{Descriptor}
 use Rattle.resource_walk.specs.declared.step.Step.{Step}
 use Rattle.resource_walk.specs.declared.step.Step.the-variants.{Found}
-use Rattle.resource_descriptor.specs.Descriptor.{size, descriptorBytes, bytesOf, isLast}
+use Rattle.resource_descriptor.specs.Descriptor.{size, descriptorBytes, descriptorsBytes, isLast}
 use Rattle.resource.specs.Resource.{windowBases, Source, descriptorOf, described, descriptors, sourceOf}
 use Rattle.resource_walk.specs.Walk.{following, stepAt, handed, walk}
 use Rattle.resource_walk.specs.Meaning.{WalkBack}
@@ -50,19 +50,19 @@ walk-end l = walk-steps l (length l) ∙ ap (λ (t : Step). handed t (walk l)) (
 
 module _ (s : Source) where
   is-last : (last : Bool) (b : ℕ) → isLast (descriptorOf s last b) ≡ last
-  is-last last b = last-flag last (eqb (spaceOf (s .register b)) 1) (s .widths b) (s .order b)
+  is-last last b = last-flag last (eqb (registerSpace (s .register b)) 1) (s .widths b) (s .order b)
 
   -- from the descriptor of the first of some base registers, one after the other
   walk-described : (b : ℕ) (l before after : List ℕ) → ((last : Bool) (j : ℕ) → j < suc (length l) → Small (descriptorOf s last (getD (b ∷ l) j 0)))
-      → walk (before ++ (bytesOf (described s (b ∷ l)) ++ after)) (length before) ≡ described s (b ∷ l)
-  unfolding described bytesOf
+      → walk (before ++ (descriptorsBytes (described s (b ∷ l)) ++ after)) (length before) ≡ described s (b ∷ l)
+  unfolding described descriptorsBytes
   walk-described b [] before after small =
       let d = descriptorOf s true b in
       rw (append-assoc (descriptorBytes d) [] after)
       (walk-one d true (small true 0 (omega arith)) refl (is-last true b) before after ∙ rw (walk-end (before ++ (descriptorBytes d ++ after))))
   walk-described b (c ∷ l) before after small =
       let d = descriptorOf s false b in
-      let r = bytesOf (described s (c ∷ l)) in
+      let r = descriptorsBytes (described s (c ∷ l)) in
       let p : length before + size ≡ length (before ++ descriptorBytes d) = sym (length-append before (descriptorBytes d) ∙ rw (bytes-size d)) in
       let more : walk (before ++ (descriptorBytes d ++ (r ++ after))) (length before + size) ≡ described s (c ∷ l) =
       rw (← append-assoc before (descriptorBytes d) (r ++ after), p)
@@ -75,7 +75,7 @@ pub walk-back : WalkBack
 walk-back header records registers windows handle out h =
     let s = sourceOf records registers windows handle in
     let a = call-accepted records registers windows handle out header h in
-    let v = bytesOf (descriptors s) in
+    let v = descriptorsBytes (descriptors s) in
     let fits : 0 + length v ≤ length out = rw (zero-add (length v), described-size s (windowBases (s .exponent))) (a .room) in
     rw (a .written, sets-eq v out 0 fits)
     (by (windowBases (s .exponent)) (drop (0 + length v) out) (a .some)
@@ -83,6 +83,6 @@ walk-back header records registers windows handle out h =
   where
     by : (l rest : List ℕ) → 0 < length l
         → ((last : Bool) (j : ℕ) → j < length l → Small (descriptorOf (sourceOf records registers windows handle) last (getD l j 0)))
-        → walk (bytesOf (described (sourceOf records registers windows handle) l) ++ rest) 0 ≡ described (sourceOf records registers windows handle) l
+        → walk (descriptorsBytes (described (sourceOf records registers windows handle) l) ++ rest) 0 ≡ described (sourceOf records registers windows handle) l
     by [] rest k small = absurd (omega arith)
     by (b ∷ l) rest k small = walk-described (sourceOf records registers windows handle) b l [] rest small

@@ -11,7 +11,7 @@ use borrow.Author.Tests.{leb-true, lt-leb}
 use Rattle.resource_descriptor.specs.declared.descriptor.Descriptor.{Descriptor}
 use Rattle.resource_walk.specs.declared.step.Step.{Step}
 use Rattle.resource_walk.specs.declared.step.Step.the-variants.{Found, Ended}
-use Rattle.resource_descriptor.specs.Descriptor.{size, fieldsAt, isLast}
+use Rattle.resource_descriptor.specs.Descriptor.{size, descriptorAt, isLast}
 use Rattle.resource_walk.specs.Walk.{following, stepAt, position, handed, walkFor, walk, stands}
 use Rattle.resource_walk.specs.Meaning.{WalkMeans}
 
@@ -33,12 +33,12 @@ module _ (bytes : List ℕ) where
   step-on at d next = by (leb (at + size) (length bytes)) refl
     where
       by : (t : Bool) → leb (at + size) (length bytes) ≡ t
-          → cond t (Found (fieldsAt bytes at) (following (length bytes) at (fieldsAt bytes at))) Ended ≡ Found d next
+          → cond t (Found (descriptorAt bytes at) (following (length bytes) at (descriptorAt bytes at))) Ended ≡ Found d next
           → (at + size ≤ length bytes) × (at + size ≤ next)
       by true e f =
           let h = leb-true (at + size) (length bytes) e in
-          let g : following (length bytes) at (fieldsAt bytes at) ≡ next = cc in
-          (h, rw g at (following-on (length bytes) at (fieldsAt bytes at) h))
+          let g : following (length bytes) at (descriptorAt bytes at) ≡ next = cc in
+          (h, rw g at (following-on (length bytes) at (descriptorAt bytes at) h))
       by false e f = absurd (true≢false cc)
 
   -- one proof for both cases of a step

@@ -7,7 +7,7 @@ use lib.ListN.{length}
 use Rattle.resource_descriptor.specs.declared.descriptor.Descriptor.{Descriptor}
 use Rattle.resource_walk.specs.declared.step.Step.{Step}
 use Rattle.resource_walk.specs.declared.step.Step.the-variants.{Found, Ended}
-use Rattle.resource_descriptor.specs.Descriptor.{size, fieldsAt, isLast}
+use Rattle.resource_descriptor.specs.Descriptor.{size, descriptorAt, isLast}
 
 -- a descriptor leads on unless it has the last mark or a next field below 20
 abbrev pub leadsOn : Descriptor → Bool
@@ -19,7 +19,7 @@ following n at d = cond (leadsOn d) (at + d .next) n
 
 -- the step at a position: none where 20 bytes do not remain
 abbrev pub stepAt : List ℕ → ℕ → Step
-stepAt bytes at = cond (leb (at + size) (length bytes)) (Found (fieldsAt bytes at) (following (length bytes) at (fieldsAt bytes at))) Ended
+stepAt bytes at = cond (leb (at + size) (length bytes)) (Found (descriptorAt bytes at) (following (length bytes) at (descriptorAt bytes at))) Ended
 
 -- where a walk stands after a step
 abbrev pub position : ℕ → Step → ℕ

@@ -8,7 +8,7 @@ use resource_descriptor::descriptor::SIZE;
 ghost use mathlib.Core.Path.{_≡_};
 ghost use lib.ListN.{length};
 ghost use Prim.Native.Nat.{_+_, _^_, _<_, _≤_};
-ghost use Rattle.resource_descriptor.specs.Descriptor.{size, fieldsAt};
+ghost use Rattle.resource_descriptor.specs.Descriptor.{size, descriptorAt};
 ghost use Rattle.resource_walk.specs.Walk.{following, stepAt, position};
 
 // What stands at a position: a descriptor with the position of the one after it, or no more.
@@ -21,9 +21,9 @@ pub enum Step {
 }
 
 // The fields that stand at a position.
-fn fields_at(bytes: &[u8], at: usize) -> Descriptor
+fn descriptor_at(bytes: &[u8], at: usize) -> Descriptor
     requires { ⌜ at + size ≤ length (now bytes) ⌝ }
-    ensures { λ r. ⌜ r ≡ fieldsAt (now (bytes .entry)) at ⌝ }
+    ensures { λ r. ⌜ r ≡ descriptorAt (now (bytes .entry)) at ⌝ }
 {
     Descriptor {
         next: big_at(bytes, at, Width::Word) as u16,
@@ -57,7 +57,7 @@ pub fn descriptor_step(bytes: &[u8], at: usize) -> Step
     if end - SIZE < at {
         return Step::Ended;
     }
-    let d = fields_at(bytes, at);
+    let d = descriptor_at(bytes, at);
     Step::Found {
         descriptor: d,
         following: following(end, at, d),

@@ -10,7 +10,7 @@ use Rattle.board.specs.Parts.{Parts}
 use Rattle.call.specs.declared.call.Call.{Call}
 use Rattle.call_encoding.specs.declared.decode.Decoded.{Decoded}
 use Rattle.call_encoding.specs.declared.decode.Decoded.the-variants.{Known, Malformed}
-use Rattle.call_encoding.specs.Format.{headerSize, answerBytes}
+use Rattle.call_encoding.specs.Format.{callHeaderSize, answerBytes}
 use Rattle.script.specs.Script.{Ran, ran, front, turnOf}
 use Rattle.script.proofs.Fronts.{whole, front-short, answer-length, turn-none, turn-is}
 use Rattle.script.proofs.Runs.{runFrom, resumed, resumed-twice, stepAt, from-none, from-known}
@@ -32,7 +32,7 @@ going-start l p =
       cells = refl;
       fuel = length l;
       enough = omega arith;
-      left = rw (zero-add (runFrom (length l) p l .place));
+      left = rw (zero-add (runFrom (length l) p l .position));
     }
 
 -- nothing is left: at the end of the script, and before a malformed call
@@ -45,37 +45,37 @@ at-end {l = l} {at = at} i h = finished i (rw (drop-of-length-le l {i = at} h) (
 
 -- a call's bytes put back where it stood: the header that was said over, its own buffer, and the rest
 record Placed (l part said mine : List ℕ) (at own : ℕ) : Type 0 where
-  fits : headerSize + own ≤ length l - at
+  fits : callHeaderSize + own ≤ length l - at
   kept : length mine ≡ own
   size : length (take at l ++ part) ≡ length l
-  front : take (at + (headerSize + own)) (take at l ++ part) ≡ take at l ++ (said ++ mine)
-  rest : drop (at + (headerSize + own)) (take at l ++ part) ≡ drop (headerSize + own) (drop at l)
+  front : take (at + (callHeaderSize + own)) (take at l ++ part) ≡ take at l ++ (said ++ mine)
+  rest : drop (at + (callHeaderSize + own)) (take at l ++ part) ≡ drop (callHeaderSize + own) (drop at l)
 
-placed : (l part said mine : List ℕ) (at own : ℕ) → at ≤ length l → headerSize ≤ length (drop at l) → own ≤ length (drop at l) - headerSize
-    → length said ≡ headerSize → part ≡ said ++ (mine ++ drop (headerSize + own) (drop at l)) → length part ≡ length (drop at l)
+placed : (l part said mine : List ℕ) (at own : ℕ) → at ≤ length l → callHeaderSize ≤ length (drop at l) → own ≤ length (drop at l) - callHeaderSize
+    → length said ≡ callHeaderSize → part ≡ said ++ (mine ++ drop (callHeaderSize + own) (drop at l)) → length part ≡ length (drop at l)
     → Placed l part said mine at own
 placed l part said mine at own h enough fits header e size =
     let d : length (drop at l) ≡ length l - at = length-drop at l in
-    let sum : length part ≡ headerSize + (length mine + (length (drop at l) - (headerSize + own))) =
-    ap length e ∙ length-append said _ ∙ rw (header, length-append mine, length-drop (headerSize + own) (drop at l)) in
+    let sum : length part ≡ callHeaderSize + (length mine + (length (drop at l) - (callHeaderSize + own))) =
+    ap length e ∙ length-append said _ ∙ rw (header, length-append mine, length-drop (callHeaderSize + own) (drop at l)) in
     let kept : length mine ≡ own = omega arith in
     let before : length (take at l) ≡ at = length-take-le at l h in
-    let first : length (take at l ++ (said ++ mine)) ≡ at + (headerSize + own) =
+    let first : length (take at l ++ (said ++ mine)) ≡ at + (callHeaderSize + own) =
     length-append (take at l) _ ∙ rw (before, length-append said mine, header, kept) in
-    let split : take at l ++ part ≡ (take at l ++ (said ++ mine)) ++ drop (headerSize + own) (drop at l) =
+    let split : take at l ++ part ≡ (take at l ++ (said ++ mine)) ++ drop (callHeaderSize + own) (drop at l) =
     rw e (ap (λ (x : List ℕ). take at l ++ x) (sym (append-assoc said mine _)) ∙ sym (append-assoc (take at l) (said ++ mine) _)) in
     record {
       fits = omega arith;
       kept = kept;
       size = length-append (take at l) part ∙ rw (before, size) (omega arith);
-      front = rw split (take-at (take at l ++ (said ++ mine)) _ (at + (headerSize + own)) first);
-      rest = rw split (drop-at (take at l ++ (said ++ mine)) _ (at + (headerSize + own)) first);
+      front = rw split (take-at (take at l ++ (said ++ mine)) _ (at + (callHeaderSize + own)) first);
+      rest = rw split (drop-at (take at l ++ (said ++ mine)) _ (at + (callHeaderSize + own)) first);
     }
 
 going-on : {l₀ : List ℕ} {p₀ : Parts} {l : List ℕ} {p : Parts} {at : ℕ} → Going l₀ p₀ l p at → (c : Call) (own : ℕ) → front (drop at l) ≡ Known c own
     → (part : List ℕ) → Placed l part (answerBytes (stepAt p c own (drop at l) .answer) own) (stepAt p c own (drop at l) .own) at own
     → length (stepAt p c own (drop at l) .parts .cells) ≡ length (p₀ .cells)
-    → Going l₀ p₀ (take at l ++ part) (stepAt p c own (drop at l) .parts) (at + (headerSize + own))
+    → Going l₀ p₀ (take at l ++ part) (stepAt p c own (drop at l) .parts) (at + (callHeaderSize + own))
 going-on {l₀} {p₀} {l} {p} {at} i c own e part b cells =
     let inside = b .fits in
     let more : i .fuel ≡ suc (i .fuel - 1) = omega (arith, i .enough) in
@@ -88,7 +88,7 @@ going-on {l₀} {p₀} {l} {p} {at} i c own e part b cells =
       left =
           i .left ∙ ap (λ (k : ℕ). resumed at (take at l) (runFrom k p (drop at l))) more
           ∙ ap (λ (r : Ran). resumed at (take at l) r) (from-known (i .fuel - 1) p (drop at l) c own e)
-          ∙ rw (b .kept, b .front, b .rest) (resumed-twice at (headerSize + own) (take at l) _ _);
+          ∙ rw (b .kept, b .front, b .rest) (resumed-twice at (callHeaderSize + own) (take at l) _ _);
     }
 
 -- one turn of the loop
@@ -98,7 +98,7 @@ pub record Went (l₀ : List ℕ) (p₀ : Parts) (l : List ℕ) (at took : ℕ) 
 
 module _ {l₀ : List ℕ} {p₀ : Parts} {l : List ℕ} {p : Parts} {at : ℕ} (i : Going l₀ p₀ l p at) (inside : at < length l) (took : ℕ) (part : List ℕ) (q : Parts)
     (t : ran took part q ≡ turnOf p (take (length l - at) (drop at l))) (kept : length part ≡ length (take (length l - at) (drop at l))) where
-  -- the part from a place to the end is lent, and comes back there
+  -- the part from a position to the end is lent, and comes back there
   to-end : take (length l - at) (drop at l) ≡ drop at l
   to-end = take-all (length l - at) (drop at l) (rw (length-drop at l) (omega arith))
 
@@ -113,7 +113,7 @@ module _ {l₀ : List ℕ} {p₀ : Parts} {l : List ℕ} {p : Parts} {at : ℕ} 
   stopped z = by (front (drop at l)) refl
     where
       by : (d : Decoded) → front (drop at l) ≡ d → runFrom (length l₀) p₀ l₀ ≡ ran at (take at l ++ (part ++ drop (length l - at) (drop at l))) q
-      by (Known c own) e = absurd (omega (arith, ap (λ (r : Ran). r .place) ((rw to-end at t) ∙ sym (turn-is p (drop at l) e _ refl))))
+      by (Known c own) e = absurd (omega (arith, ap (λ (r : Ran). r .position) ((rw to-end at t) ∙ sym (turn-is p (drop at l) e _ refl))))
       by Malformed e =
           let s = (rw to-end at t) ∙ sym (turn-none p (drop at l) e) in
           rw (none-after, append-nil part, ap (λ (r : Ran). r .script) s, ap (λ (r : Ran). r .parts) s, take-append-drop at l) (finished i e)
@@ -129,9 +129,9 @@ module _ {l₀ : List ℕ} {p₀ : Parts} {l : List ℕ} {p : Parts} {at : ℕ} 
           let w = whole d c own e in
           let b = placed l part (answerBytes (n .answer) own) (n .own) at own (i .within) (w .enough) (w .fits) (answer-length (n .answer) own)
           (ap (λ (r : Ran). r .script) s) (kept ∙ ap length to-end) in
-          let took-is : took ≡ headerSize + own = ap (λ (r : Ran). r .place) s in
+          let took-is : took ≡ callHeaderSize + own = ap (λ (r : Ran). r .position) s in
           record {
             fits = rw took-is (b .fits);
             going = λ cells. rw (none-after, append-nil part, took-is, ap (λ (r : Ran). r .parts) s) (going-on i c own e part b (rw (ap (λ (r : Ran). r .parts) s) at cells));
           }
-      by Malformed e = absurd (z (ap (λ (r : Ran). r .place) ((rw to-end at t) ∙ sym (turn-none p (drop at l) e))))
+      by Malformed e = absurd (z (ap (λ (r : Ran). r .position) ((rw to-end at t) ∙ sym (turn-none p (drop at l) e))))

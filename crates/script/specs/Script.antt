@@ -8,10 +8,10 @@ use Rattle.board.specs.Parts.{Parts}
 use Rattle.call.specs.declared.call.Call.{Call}
 use Rattle.reference.specs.Reference.{referenceStart}
 use Rattle.reference.specs.State.{step}
-use Rattle.reference.specs.Run.{Asked, Heard, asked, referenceAnswers, referenceAfter, partsOf}
+use Rattle.reference.specs.Run.{Request, Response, request, referenceResponses, referenceAfter, partsOf}
 use Rattle.call_encoding.specs.declared.decode.Decoded.{Decoded}
 use Rattle.call_encoding.specs.declared.decode.Decoded.the-variants.{Known, Malformed}
-use Rattle.call_encoding.specs.Format.{headerSize, decoded, answerBytes}
+use Rattle.call_encoding.specs.Format.{callHeaderSize, decoded, answerBytes}
 
 -- a call's own buffer fits into what remains, or the call is malformed
 abbrev pub fitting : ℕ → Decoded → Decoded
@@ -20,7 +20,7 @@ fitting room Malformed = Malformed
 
 -- the call at the front of a script
 unfoldable pub front : List ℕ → Decoded
-front l = cond (ltb (length l) headerSize) Malformed (fitting (length l - headerSize) (decoded (take headerSize l)))
+front l = cond (ltb (length l) callHeaderSize) Malformed (fitting (length l - callHeaderSize) (decoded (take callHeaderSize l)))
 
 abbrev pub onCall : {A : Type 0} → Decoded → (Call → ℕ → A) → A → A
 onCall (Known c own) f x = f c own
@@ -28,39 +28,39 @@ onCall Malformed f x = x
 
 -- the own buffer of the call at the front
 abbrev pub ownBytes : ℕ → List ℕ → List ℕ
-ownBytes own l = take own (drop headerSize l)
+ownBytes own l = take own (drop callHeaderSize l)
 
 -- the calls from the front up to the first malformed one, n at most
-unfoldable pub callsFrom : ℕ → List ℕ → List Asked
+unfoldable pub callsFrom : ℕ → List ℕ → List Request
 callsFrom zero l = []
-callsFrom (suc n) l = onCall (front l) (λ c own. asked c (ownBytes own l) ∷ callsFrom n (drop (headerSize + own) l)) []
+callsFrom (suc n) l = onCall (front l) (λ c own. request c (ownBytes own l) ∷ callsFrom n (drop (callHeaderSize + own) l)) []
 
 -- a script has no more calls than bytes
-abbrev pub callsIn : List ℕ → List Asked
+abbrev pub callsIn : List ℕ → List Request
 callsIn script = callsFrom (length script) script
 
 -- the bytes that calls take
-unfoldable pub bytesOf : List Asked → ℕ
-bytesOf [] = 0
-bytesOf (c ∷ cs) = headerSize + length (c .own) + bytesOf cs
+unfoldable pub callsBytes : List Request → ℕ
+callsBytes [] = 0
+callsBytes (c ∷ cs) = callHeaderSize + length (c .own) + callsBytes cs
 
--- the place of the first malformed call, or the script's length
+-- the position of the first malformed call, or the script's length
 abbrev pub stopIn : List ℕ → ℕ
-stopIn script = bytesOf (callsIn script)
+stopIn script = callsBytes (callsIn script)
 
 -- answers over the headers, own buffers where they stood
-unfoldable pub rendered : List Heard → List ℕ
+unfoldable pub rendered : List Response → List ℕ
 rendered [] = []
 rendered (h ∷ hs) = answerBytes (h .answer) (length (h .own)) ++ (h .own ++ rendered hs)
 
--- the place handed back, the script and the lent parts
+-- the position handed back, the script and the lent parts
 pub record Ran : Type 0 where
-  pub place : ℕ
+  pub position : ℕ
   pub script : List ℕ
   pub parts : Parts
 
 abbrev pub ran : ℕ → List ℕ → Parts → Ran
-ran place script p = record { place = place; script = script; parts = p }
+ran position script p = record { position = position; script = script; parts = p }
 
 -- the call at the front performed in place, with the bytes that it takes; 0 where it is malformed
 unfoldable pub turnOf : Parts → List ℕ → Ran
@@ -68,7 +68,7 @@ turnOf p l =
     onCall (front l)
     (λ c own.
     let n = step p c (ownBytes own l) in
-    ran (headerSize + own) (answerBytes (n .answer) own ++ (n .own ++ drop (headerSize + own) l)) (n .parts))
+    ran (callHeaderSize + own) (answerBytes (n .answer) own ++ (n .own ++ drop (callHeaderSize + own) l)) (n .parts))
     (ran 0 l p)
 
 -- THE CONTRACT OF RUN, in the reference machine's words
@@ -76,4 +76,4 @@ unfoldable pub runOf : List ℕ → List ℕ → Ran
 runOf script cells =
     let calls = callsIn script in
     let b = referenceStart cells in
-    ran (stopIn script) (rendered (referenceAnswers b calls) ++ drop (stopIn script) script) (partsOf (referenceAfter b calls))
+    ran (stopIn script) (rendered (referenceResponses b calls) ++ drop (stopIn script) script) (partsOf (referenceAfter b calls))

@@ -41,8 +41,8 @@ fn clear(
     *used = [0u32; MARK * FUNCTIONS];
 }
 
-// Performs the calls of a script one after the other, in place. Gives the place of the first malformed call, or the script's length where there is none; the
-// bytes from that place on stay as they were.
+// Performs the calls of a script one after the other, in place. Gives the position of the first malformed call, or the script's length where there is none; the
+// bytes from that position on stay as they were.
 pub fn run(
     script: &mut [u8],
     header: &mut Header,

@@ -1,2 +1,6 @@
 // The two searches of document 01.
-pub mod search;
+mod search;
+
+pub use search::Search;
+pub use search::find_pci_classcode;
+pub use search::find_pci_device;

@@ -1,2 +1,6 @@
 // The calls that this board does not support.
-pub mod unsupported;
+mod unsupported;
+
+pub use unsupported::get_routing;
+pub use unsupported::set_interrupt;
+pub use unsupported::special_cycle;

@@ -16,7 +16,7 @@ use Rattle.numbers.proofs.Tests.{both-true}
 use Rattle.window.specs.Window.{Window, end}
 use Rattle.window_list.specs.Windows.{windowAt, openWindows, sorted, another, contends, any, withMark, listOf}
 use Rattle.window.specs.Window.{In}
-use Rattle.window_list.specs.Meaning.{Every, howMany, sameRegister, OpenAt, Contests, Contested, Means, ListMeans, Watched, ListDependsOn}
+use Rattle.window_list.specs.Meaning.{EveryWindow, howMany, sameRegister, OpenAt, Contests, Contested, Means, ListMeans, Watched, ListDependsOn}
 use Rattle.window_list.proofs.Lists.{in-every, any-sorted, many-sorted, in-sorted, in-map, map-same, any-in, gather-same}
 use Rattle.window_list.proofs.Order.{Apart, differ, another-by, another-sym, ascending-sorted, ascending-map}
 use Rattle.window_list.proofs.Open.{slot, in-open, open-in, apart-slots}
@@ -53,7 +53,7 @@ remarked : (m n m′ n′ : Bool) (w v : Window) → Contests (withMark m w) (wi
 remarked m n m′ n′ w v c =
     record { other = c .other; space = c .space; address = c .address; from-v = c .from-v; to-v = c .to-v; from-w = c .from-w; to-w = c .to-w }
 
-none-of : (v : Window) (l : List Window) → Every (λ w. another w v ≡ true) l → howMany (sameRegister v) l ≡ 0
+none-of : (v : Window) (l : List Window) → EveryWindow (λ w. another w v ≡ true) l → howMany (sameRegister v) l ≡ 0
 none-of v [] a = refl
 none-of v (w ∷ l) a = rw (not-true (sameRegister v w) (a .0), none-of v l (a .1))
 

@@ -14,7 +14,7 @@ use Rattle.window.specs.Window.{Window, end, startOf, isWindow, isOpen, windowO
 use Rattle.window.proofs.Exponents.{window-range}
 use Rattle.window_list.specs.Windows.{windowAt, gather, openWindows, another, withMark}
 use Rattle.window.specs.Window.{In}
-use Rattle.window_list.specs.Meaning.{Every, OpenAt}
+use Rattle.window_list.specs.Meaning.{EveryWindow, OpenAt}
 use Rattle.window_list.proofs.Lists.{every-in, in-gather}
 use Rattle.window_list.proofs.Order.{Apart, another-by}
 
@@ -55,7 +55,7 @@ apart-append : (l m : List Window) → Apart l → Apart m → ((v w : Window) �
 apart-append [] m a b c = b
 apart-append (w ∷ l) m a b c = (every-append l (a .0), apart-append l m (a .1) b (λ v x i j. c v x i (inr j)))
   where
-    every-append : (l : List Window) → Every (λ v. another v w ≡ true) l → Every (λ v. another v w ≡ true) (l ++ m)
+    every-append : (l : List Window) → EveryWindow (λ v. another v w ≡ true) l → EveryWindow (λ v. another v w ≡ true) (l ++ m)
     every-append [] e = every-in (λ v. another v w ≡ true) m (λ v i. c v w i (inl refl))
     every-append (v ∷ l) e = (e .0, every-append l (e .1))
 

@@ -12,9 +12,9 @@ use Rattle.window_list.specs.Windows.{withMark, before, windowList}
 use Rattle.window.specs.Kept.{unpacked}
 use Rattle.window_list.specs.Kept.{keptList}
 
-abbrev pub Every : (Window → Type 0) → List Window → Type 0
-Every P [] = Unit {0}
-Every P (w ∷ l) = P w × Every P l
+abbrev pub EveryWindow : (Window → Type 0) → List Window → Type 0
+EveryWindow P [] = Unit {0}
+EveryWindow P (w ∷ l) = P w × EveryWindow P l
 
 -- how many of a list a test holds of
 abbrev pub howMany : (Window → Bool) → List Window → ℕ
@@ -50,7 +50,7 @@ Contested count k r w = (v : Window) × OpenAt count k r v × Contests w v
 -- each before all that follow
 abbrev pub Ascending : List Window → Type 0
 Ascending [] = Unit {0}
-Ascending (w ∷ l) = Every (λ v. before w v ≡ true) l × Ascending l
+Ascending (w ∷ l) = EveryWindow (λ v. before w v ≡ true) l × Ascending l
 
 -- every open window, once, with its mark, and nothing else; in order
 pub record Means (count : ℕ) (k r : ℕ → ℕ → ℕ) (l : List Window) : Type 0 where

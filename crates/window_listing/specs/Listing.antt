@@ -18,36 +18,36 @@ inSpace true start length = Io (record { 0 = start }) length
 inSpace false start length = Memory (record { 0 = start }) length
 
 -- the answer that hands back a window
-abbrev pub found : Window → Listing
-found w = Found (inSpace (eqb (w .space) 1) (w .start) (w .length)) (w .handle) (w .base) (w .contested)
+abbrev pub foundWindow : Window → Listing
+foundWindow w = Found (inSpace (eqb (w .space) 1) (w .start) (w .length)) (w .handle) (w .base) (w .contested)
 
 -- window n of a list, from 0; past the end DEVICE_NOT_FOUND
 unfoldable pub listing : List Window → ℕ → Listing
 listing [] n = Refused deviceNotFound
-listing (w ∷ l) zero = found w
+listing (w ∷ l) zero = foundWindow w
 listing (w ∷ l) (suc n) = listing l n
 
 -- the number of an answer, and its values: space (1 for I/O), start, length, handle, base register, contested (1 where it is)
-abbrev pub numberOf : Listing → ℤ
-numberOf (Found w handle base contested) = successful .0
-numberOf (Refused status) = status .0
+abbrev pub listingNumber : Listing → ℤ
+listingNumber (Found w handle base contested) = successful .0
+listingNumber (Refused status) = status .0
 
-abbrev pub spaceNumber : ListedWindow → ℕ
-spaceNumber (Memory start length) = 0
-spaceNumber (Io start length) = 1
+abbrev pub listedSpace : ListedWindow → ℕ
+listedSpace (Memory start length) = 0
+listedSpace (Io start length) = 1
 
-abbrev pub startNumber : ListedWindow → ℕ
-startNumber (Memory start length) = start .0
-startNumber (Io start length) = start .0
+abbrev pub listedStart : ListedWindow → ℕ
+listedStart (Memory start length) = start .0
+listedStart (Io start length) = start .0
 
-abbrev pub lengthNumber : ListedWindow → ℕ
-lengthNumber (Memory start length) = length
-lengthNumber (Io start length) = length
+abbrev pub listedLength : ListedWindow → ℕ
+listedLength (Memory start length) = length
+listedLength (Io start length) = length
 
-abbrev pub valuesOf : Listing → List ℕ
-valuesOf (Found w handle base contested) =
-    spaceNumber w ∷ startNumber w ∷ lengthNumber w ∷ handle ∷ base ∷ cond contested 1 0 ∷ []
-valuesOf (Refused status) = replicate 6 0
+abbrev pub listingValues : Listing → List ℕ
+listingValues (Found w handle base contested) =
+    listedSpace w ∷ listedStart w ∷ listedLength w ∷ handle ∷ base ∷ cond contested 1 0 ∷ []
+listingValues (Refused status) = replicate 6 0
 
 -- document 01's number and values for window n of a list: zeros past the end
 unfoldable pub listedNumber : List Window → ℕ → ℤ
@@ -64,5 +64,5 @@ listedValues (w ∷ l) (suc n) = listedValues l n
 -- an answer is window n of a list, and hands back its number and values
 pub record Lists (l : List Window) (n : ℕ) (r : Listing) : Type 0 where
   pub answer : r ≡ listing l n
-  pub number : numberOf r ≡ listedNumber l n
-  pub values : valuesOf r ≡ listedValues l n
+  pub number : listingNumber r ≡ listedNumber l n
+  pub values : listingValues r ≡ listedValues l n

@@ -13,7 +13,7 @@ use window::kept::start_of;
 ghost use mathlib.Core.Path.{_≡_};
 ghost use lib.ListN.{length};
 ghost use Rattle.window.specs.Kept.{unpack, unpacked};
-ghost use Rattle.window_listing.specs.Listing.{inSpace, found, Lists};
+ghost use Rattle.window_listing.specs.Listing.{inSpace, foundWindow, Lists};
 
 // A window in its space, with its start and length.
 pub enum ListedWindow {
@@ -63,7 +63,7 @@ fn in_space(io: bool, start: u32, length: u32) -> ListedWindow
 
 // The window that a kept number says.
 fn listed(w: u64) -> Listing
-    ensures { λ r. ⌜ r ≡ found (unpack w) ⌝ }
+    ensures { λ r. ⌜ r ≡ foundWindow (unpack w) ⌝ }
 {
     Listing::Found {
         window: in_space(is_io(w), start_of(w), length_of(w)),

@@ -10,15 +10,15 @@ descriptor-step-requires c κs = search needs
 enum-known-descriptor : tie.Need-enum-known-descriptor
 enum-known-descriptor c = search needs
 
-fields-of-requires : tie.Need-fields-of-requires
-fields-of-requires c κs = search needs
+descriptor-fields-requires : tie.Need-descriptor-fields-requires
+descriptor-fields-requires c κs = search needs
 
 enum-told : tie.Need-enum-told
 enum-told c = search needs
 
 returns : tie.Need-returns
 returns c =
-    rw (sym (c .before .before .before .before .descriptor-step .ensures) ∙ c .before .before .descriptor .given .1, c .fields-of .ensures)
+    rw (sym (c .before .before .before .before .descriptor-step .ensures) ∙ c .before .before .descriptor .given .1, c .descriptor-fields .ensures)
 
 returns-2 : tie.Need-returns-2
 returns-2 c = rw (sym (c .before .before .before .descriptor-step .ensures) ∙ c .before .enum-told .given .1)
@@ -29,7 +29,7 @@ bios-descriptor-step-spec =
     (tie.spec
     descriptor-step-requires
     enum-known-descriptor
-    fields-of-requires
+    descriptor-fields-requires
     enum-told
     returns
     returns-2)

@@ -1,4 +1,4 @@
--- `answer_bytes`: number, flag, values and length put at their places among zeros.
+-- `answer_bytes`: number, flag, values and length put at their positions among zeros.
 use mathlib.Core.Path.{ap, _∙_}
 use native.Mathlib.Omega.{arith}
 use lib.ListN.{length-set}

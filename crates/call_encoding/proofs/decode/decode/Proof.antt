@@ -6,8 +6,8 @@ use borrow.Author.Needs.{needs}
 use Rattle.call_encoding.proofs.decode.decode.Statement.{statement}
 use Rattle.call_encoding.proofs.decode.decode.Tie as tie
 
-fields-at-requires : tie.Need-fields-at-requires
-fields-at-requires c κs = search needs
+header-fields-at-requires : tie.Need-header-fields-at-requires
+header-fields-at-requires c κs = search needs
 
 big-at-requires : tie.Need-big-at-requires
 big-at-requires c κs = search needs
@@ -18,8 +18,8 @@ call-of-requires c κs = search needs
 fields-of-requires : tie.Need-fields-of-requires
 fields-of-requires c κs = search needs
 
-header-of-requires : tie.Need-header-of-requires
-header-of-requires c κs = search needs
+call-header-requires : tie.Need-call-header-requires
+call-header-requires c κs = search needs
 
 slice-aggregate-same : tie.Need-slice-aggregate-same
 slice-aggregate-same c = search needs
@@ -31,25 +31,25 @@ returns : tie.Need-returns
 returns c =
     let h = c .before .before .before in
     let f = h .before .before .before .before in
-    decoded-known (f .before .before .args .header .now) _ _ _ (f .fields-at .ensures) (h .before .before .call-of .ensures) (h .before .before .before .big-at .ensures)
-    (h .before .fields-of .ensures) (h .header-of .ensures) (c .before .same .ensures .0 (c .if1 .taken))
+    decoded-known (f .before .before .args .header .now) _ _ _ (f .header-fields-at .ensures) (h .before .before .call-of .ensures) (h .before .before .before .big-at .ensures)
+    (h .before .fields-of .ensures) (h .call-header .ensures) (c .before .same .ensures .0 (c .if1 .taken))
 
 returns-2 : tie.Need-returns-2
 returns-2 c =
     let h = c .before .before .before in
     let f = h .before .before .before .before in
-    decoded-not (f .before .before .args .header .now) _ _ _ (f .fields-at .ensures) (h .before .before .call-of .ensures) (h .before .before .before .big-at .ensures)
-    (h .before .fields-of .ensures) (h .header-of .ensures) (λ e. true≢false (sym (c .before .same .ensures .1 e) ∙ c .if1 .left))
+    decoded-not (f .before .before .args .header .now) _ _ _ (f .header-fields-at .ensures) (h .before .before .call-of .ensures) (h .before .before .before .big-at .ensures)
+    (h .before .fields-of .ensures) (h .call-header .ensures) (λ e. true≢false (sym (c .before .same .ensures .1 e) ∙ c .if1 .left))
 
 pub decode-spec : {M : Type 1} → statement M
 decode-spec =
     tie.close
     (tie.spec
-    fields-at-requires
+    header-fields-at-requires
     big-at-requires
     call-of-requires
     fields-of-requires
-    header-of-requires
+    call-header-requires
     slice-aggregate-same
     same-requires
     returns

@@ -43,8 +43,8 @@ holds-requires c κs = search needs
 place-of-handle-requires : tie.Need-place-of-handle-requires Inv-loop μ-loop
 place-of-handle-requires c κs = search needs
 
-judged-requires : tie.Need-judged-requires Inv-loop μ-loop
-judged-requires c κs =
+check-window-requires : tie.Need-check-window-requires Inv-loop μ-loop
+check-window-requires c κs =
     let d = c .before in
     let a = d .before .before .before .before .before .before .before .before .args in
     let j = d .before .before .before .before .before .before .loop .j in
@@ -54,7 +54,7 @@ judged-requires c κs =
 returns-2 : tie.Need-returns-2 Inv-loop μ-loop
 returns-2 c =
     let d = c .before .before .before .before in
-    c .judged .ensures
+    c .check-window .ensures
     ∙ rw (c .before .place-of-handle .ensures (d .before .before .before .before .before .before .pre)) (sym (list-here _ _ _ _ _ (d .before .before .before .before .loop .j) (d .before .before .before .loop-test .taken) (sym (d .before .is-end .ensures) ∙ d .if1 .left) (sym (c .before .before .before .holds .ensures) ∙ c .before .before .if2 .taken)))
     ∙ d .before .before .before .before .loop .inv
 
@@ -86,7 +86,7 @@ in-list-spec =
     returns
     holds-requires
     place-of-handle-requires
-    judged-requires
+    check-window-requires
     returns-2
     add-j
     loop-less

@@ -1,4 +1,4 @@
--- `check_image`: the upper length first, then what `judge` says.
+-- `check_image`: the upper length first, then what `check_any_length` says.
 use mathlib.Core.Path.{_∙_}
 use native.Mathlib.Omega.{arith}
 use lib.ListN.{length}
@@ -18,14 +18,14 @@ returns c =
     let long = length (c .before .before .before .args .image .now) in
     c .plain .ensures ∙ simp (lt-ltb imageMax long (omega arith))
 
-judge-requires : tie.Need-judge-requires
-judge-requires c κs = search needs
+check-any-length-requires : tie.Need-check-any-length-requires
+check-any-length-requires c κs = search needs
 
 returns-2 : tie.Need-returns-2
 unfolding checked
 returns-2 c =
     let long = length (c .before .before .before .args .image .now) in
-    c .judge .ensures ∙ simp (le-ltb imageMax long (omega arith))
+    c .check-any-length .ensures ∙ simp (le-ltb imageMax long (omega arith))
 
 pub check-image-spec : {M : Type 1} → statement M
-check-image-spec = tie.close (tie.spec plain-requires returns judge-requires returns-2)
+check-image-spec = tie.close (tie.spec plain-requires returns check-any-length-requires returns-2)

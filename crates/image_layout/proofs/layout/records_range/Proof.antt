@@ -6,8 +6,8 @@ use Rattle.image_layout.proofs.layout.records_range.Tie as tie
 image-size-requires : tie.Need-image-size-requires
 image-size-requires c κs = search needs
 
-place-back-requires : tie.Need-place-back-requires
-place-back-requires c κs = search needs
+position-back-requires : tie.Need-position-back-requires
+position-back-requires c κs = search needs
 
 mul-t5 : tie.Need-mul-t5
 mul-t5 c = search needs
@@ -16,8 +16,8 @@ add-t6 : tie.Need-add-t6
 add-t6 c = search needs
 
 returns : tie.Need-returns
-returns c = rw (c .place-back .ensures, c .before .image-size .ensures)
+returns c = rw (c .position-back .ensures, c .before .image-size .ensures)
 
 pub records-range-spec : {M : Type 1} → statement M
 records-range-spec =
-    tie.close (tie.spec image-size-requires place-back-requires mul-t5 add-t6 returns)
+    tie.close (tie.spec image-size-requires position-back-requires mul-t5 add-t6 returns)

@@ -1,6 +1,6 @@
 -- `write_image`: the refusals in their order, else the image.
 use borrow.Author.Tests.{lt-ltb, le-ltb, eq-eqb, ne-eqb}
-use Rattle.image_writer.specs.Write.{write}
+use Rattle.image_writer.specs.Write.{writeImage}
 use borrow.Author.Needs.{needs}
 use Rattle.image_writer.proofs.write.write_image.Statement.{statement}
 use Rattle.image_writer.proofs.write.write_image.Tie as tie
@@ -12,13 +12,13 @@ image-size-requires : tie.Need-image-size-requires
 image-size-requires c κs = search needs
 
 returns : tie.Need-returns
-unfolding write
+unfolding writeImage
 returns c =
     let e = c .before .before .function-count .ensures in
     rw (← e, ← c .before .image-size .ensures, lt-ltb _ _ (c .if1 .taken))
 
 returns-2 : tie.Need-returns-2
-unfolding write
+unfolding writeImage
 returns-2 c =
     let e = c .before .before .before .function-count .ensures in
     rw (← e, ← c .before .before .image-size .ensures, le-ltb _ _ (c .before .if1 .left), eq-eqb _ _ (c .if2 .taken))
@@ -30,7 +30,7 @@ same-length : tie.Need-same-length
 same-length c = search needs
 
 returns-3 : tie.Need-returns-3
-unfolding write
+unfolding writeImage
 returns-3 c =
     let d = c .before .before .before .before .before in
     let e = d .before .before .before .function-count .ensures in

@@ -5,8 +5,8 @@ use lib.ListN.{length, take, length-set}
 use Rattle.numbers.specs.Tables.{tableFrom, table}
 use Rattle.board.specs.Layout.{functionsMax, hookSize}
 use Rattle.numbers.proofs.Tables.{filled-more, filled-all}
-use Rattle.interrupt_array.specs.Hooks.{hookAt, numberAt}
-use Rattle.interrupt_edit.specs.Changes.{after}
+use Rattle.interrupt_array.specs.Hooks.{hookAt, arrayNumber}
+use Rattle.interrupt_edit.specs.Changes.{afterChange}
 use borrow.Author.Needs.{needs}
 use native.Mathlib.Omega.{arith}
 use Rattle.interrupt_edit.proofs.change.fill.Statement.{statement}
@@ -15,7 +15,7 @@ use Rattle.interrupt_edit.proofs.change.fill.Tie as tie
 abbrev Inv-loop : tie.InvT-loop
 Inv-loop old hooks₀ change j₀ hooks j =
     (j ≤ functionsMax * hookSize)
-    × ((length hooks ≡ functionsMax * hookSize) × (take j hooks ≡ table j (numberAt (after change (hookAt old)))))
+    × ((length hooks ≡ functionsMax * hookSize) × (take j hooks ≡ table j (arrayNumber (afterChange change (hookAt old)))))
 
 abbrev μ-loop : tie.MeasureT-loop
 μ-loop old hooks₀ change j₀ hooks j = functionsMax * hookSize - j

@@ -1,4 +1,4 @@
--- `hooked_number`: before the place the old number, at the place the new hook's, after it the number three before.
+-- `hooked_number`: before the position the old number, at the position the new hook's, after it the number three before.
 use mathlib.Core.Path.{sym, _∙_}
 use denote.Ref.{now}
 use native.Mathlib.Omega.{arith}

@@ -1,4 +1,4 @@
--- `hook_interrupt`: the checks in their order, then the hook comes in at its place.
+-- `hook_interrupt`: the checks in their order, then the hook comes in at its position.
 use mathlib.Core.Path.{sym, _∙_}
 use borrow.Author.Tests.{not-true, not-false}
 use borrow.Author.Needs.{needs}
@@ -31,8 +31,8 @@ returns-3 c =
 line-of-requires : tie.Need-line-of-requires
 line-of-requires c κs = search needs
 
-place-for-requires : tie.Need-place-for-requires
-place-for-requires c κs = search needs
+position-for-requires : tie.Need-position-for-requires
+position-for-requires c κs = search needs
 
 cast-t16 : tie.Need-cast-t16
 cast-t16 c = search needs
@@ -46,7 +46,7 @@ returns-4 c =
     let e = p .before .before .before in
     let d = e .before in
     let b = d .before .before .before .before in
-    rw (sym (b .before .is-handle .ensures) ∙ not-false _ (b .if1 .left), sym (d .before .before .before .is-routed .ensures) ∙ not-false _ (d .if2 .left), sym (d .before .is-free .ensures) ∙ not-false _ (e .if3 .left), c .apply .ensures, p .place-for .ensures, p .before .line-of .ensures)
+    rw (sym (b .before .is-handle .ensures) ∙ not-false _ (b .if1 .left), sym (d .before .before .before .is-routed .ensures) ∙ not-false _ (d .if2 .left), sym (d .before .is-free .ensures) ∙ not-false _ (e .if3 .left), c .apply .ensures, p .position-for .ensures, p .before .line-of .ensures)
 
 pub hook-interrupt-spec : {M : Type 1} → statement M
 hook-interrupt-spec =
@@ -59,7 +59,7 @@ hook-interrupt-spec =
     returns-2
     returns-3
     line-of-requires
-    place-for-requires
+    position-for-requires
     cast-t16
     apply-requires
     returns-4)

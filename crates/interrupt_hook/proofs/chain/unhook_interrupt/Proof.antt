@@ -11,8 +11,8 @@ is-handle-requires c κs = search needs
 returns : tie.Need-returns
 returns c = rw (sym (c .before .is-handle .ensures) ∙ not-true _ (c .if1 .taken))
 
-entry-of-requires : tie.Need-entry-of-requires
-entry-of-requires c κs = search needs
+position-of-requires : tie.Need-position-of-requires
+position-of-requires c κs = search needs
 
 cast-if2 : tie.Need-cast-if2
 cast-if2 c = search needs
@@ -27,12 +27,12 @@ returns-2 : tie.Need-returns-2
 returns-2 c =
     let f = c .before .before in
     let b = f .before .before .before in
-    rw (sym (b .before .is-handle .ensures) ∙ not-false _ (b .if1 .left), c .apply .ensures, ← f .before .entry-of .ensures, lt-ltb _ _ (f .if2 .taken))
+    rw (sym (b .before .is-handle .ensures) ∙ not-false _ (b .if1 .left), c .apply .ensures, ← f .before .position-of .ensures, lt-ltb _ _ (f .if2 .taken))
 
 returns-3 : tie.Need-returns-3
 returns-3 c =
     let b = c .before .before .before in
-    rw (sym (b .before .is-handle .ensures) ∙ not-false _ (b .if1 .left), ← c .before .entry-of .ensures, le-ltb _ _ (c .if2 .left))
+    rw (sym (b .before .is-handle .ensures) ∙ not-false _ (b .if1 .left), ← c .before .position-of .ensures, le-ltb _ _ (c .if2 .left))
 
 pub unhook-interrupt-spec : {M : Type 1} → statement M
 unhook-interrupt-spec =
@@ -40,7 +40,7 @@ unhook-interrupt-spec =
     (tie.spec
     is-handle-requires
     returns
-    entry-of-requires
+    position-of-requires
     cast-if2
     cast-t11
     apply-requires

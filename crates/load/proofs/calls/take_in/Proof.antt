@@ -7,7 +7,7 @@ use Rattle.board.specs.Layout.{windowsMax}
 use Rattle.board.specs.Parts.{Parts}
 use Rattle.board.specs.declared.status.Status.{Status}
 use Rattle.cell_layout.proofs.Ranges.{offset-at}
-use Rattle.reset.specs.Reset.{restarted, ResetOutcome, resetTo, reset}
+use Rattle.reset.specs.Reset.{restarted, ResetOutcome, resetOutcome, reset}
 use Rattle.image_check.specs.Check.{factsOf}
 use Rattle.image_check.proofs.Accepted.{fine}
 use Rattle.load.proofs.Lists.{padded-total}
@@ -39,7 +39,7 @@ same-length : tie.Need-same-length
 same-length c = search needs
 
 -- where the cells suffice a reset is not refused
-restarts : (p q : Parts) (s : Status) → resetTo s q ≡ reset p → getD (p .cellOffsets) windowsMax 0 ≤ length (p .cells)
+restarts : (p q : Parts) (s : Status) → resetOutcome s q ≡ reset p → getD (p .cellOffsets) windowsMax 0 ≤ length (p .cells)
     → q ≡ restarted (p .header) (p .records) (p .cellOffsets) (p .cells)
 unfolding reset
 restarts p q s e h = ap (λ (w : ResetOutcome). w .parts) e ∙ rw (le-ltb _ _ h)

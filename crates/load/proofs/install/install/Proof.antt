@@ -12,14 +12,14 @@ copy-records-requires c κs =
     let d = c .before .before .before .before in
     rw (c .before .before .trailer-of .ensures) (refl, d .pre)
 
-place-cells-requires : tie.Need-place-cells-requires
-place-cells-requires c κs = search needs
+lay-out-cells-requires : tie.Need-lay-out-cells-requires
+lay-out-cells-requires c κs = search needs
 
 returns : tie.Need-returns
 returns c =
     let r = c .before .before .before .copy-records .ensures in
-    record { header = rw (c .before .before .before .before .before .before .trailer-of .ensures); records = r; offsets = rw r at (c .place-cells .ensures) }
+    record { header = rw (c .before .before .before .before .before .before .trailer-of .ensures); records = r; offsets = rw r at (c .lay-out-cells .ensures) }
 
 pub install-spec : {M : Type 1} → statement M
 install-spec =
-    tie.close (tie.spec trailer-of-requires copy-records-requires place-cells-requires returns)
+    tie.close (tie.spec trailer-of-requires copy-records-requires lay-out-cells-requires returns)

@@ -7,11 +7,11 @@ use Rattle.replay.proofs.calls.replay.Statement.{statement}
 use Rattle.replay.proofs.calls.replay.Tie as tie
 
 abbrev Inv-loop : tie.InvT-loop
-Inv-loop cells₀ asked₀ room₀ header₀ records₀ registers₀ windows₀ offsets₀ hooks₀ used₀ calls₀ at₀ cells asked room header records registers windows offsets hooks used calls at =
+Inv-loop cells₀ request₀ room₀ header₀ records₀ registers₀ windows₀ offsets₀ hooks₀ used₀ calls₀ at₀ cells request room header records registers windows offsets hooks used calls at =
     (65601 ≡ length room) × (length cells ≡ length cells₀)
 
 abbrev μ-loop : tie.MeasureT-loop
-μ-loop cells₀ asked₀ room₀ header₀ records₀ registers₀ windows₀ offsets₀ hooks₀ used₀ calls₀ at₀ cells asked room header records registers windows offsets hooks used calls at =
+μ-loop cells₀ request₀ room₀ header₀ records₀ registers₀ windows₀ offsets₀ hooks₀ used₀ calls₀ at₀ cells request room header records registers windows offsets hooks used calls at =
     2 ^ 64 - calls
 
 loop-holds : tie.Need-loop-holds Inv-loop μ-loop

@@ -6,10 +6,10 @@ use Rattle.replay.proofs.forms.fill.Statement.{statement}
 use Rattle.replay.proofs.forms.fill.Tie as tie
 
 abbrev Inv-loop : tie.InvT-loop
-Inv-loop forms line n asked call before₀ from₀ i₀ before from i = (from ≤ i) × (i ≤ length forms)
+Inv-loop forms line n request call before₀ from₀ i₀ before from i = (from ≤ i) × (i ≤ length forms)
 
 abbrev μ-loop : tie.MeasureT-loop
-μ-loop forms line n asked call before₀ from₀ i₀ before from i = length forms - i
+μ-loop forms line n request call before₀ from₀ i₀ before from i = length forms - i
 
 loop-holds : tie.Need-loop-holds Inv-loop μ-loop
 loop-holds c = search needs

@@ -5,7 +5,7 @@ use lib.ListN.{length}
 use lib.Seq.{sets, length-sets}
 use borrow.Author.Tests.{not-true, not-false}
 use Rattle.board.specs.Layout.{bases}
-use Rattle.resource_descriptor.specs.Descriptor.{size, bytesOf}
+use Rattle.resource_descriptor.specs.Descriptor.{size, descriptorsBytes}
 use Rattle.resource.specs.Resource.{windowsFrom, described, descriptors, sourceOf}
 use Rattle.resource.proofs.Turns.{windows-one, windows-none, windows-end, last-one, put-more, put-end}
 use borrow.Author.Needs.{needs}
@@ -17,7 +17,7 @@ abbrev Inv-loop : tie.InvT-loop
 Inv-loop records registers windows handle count out₀ function n₀ b₀ out n b =
     let s = sourceOf records registers windows handle in
     let l = windowsFrom (s .exponent) (bases - b) b in
-    (n ≤ b) × ((length out ≡ length out₀) × ((n + length l ≡ count) × (sets out (size * n) (bytesOf (described s l)) ≡ sets out₀ 0 (bytesOf (descriptors s)))))
+    (n ≤ b) × ((length out ≡ length out₀) × ((n + length l ≡ count) × (sets out (size * n) (descriptorsBytes (described s l)) ≡ sets out₀ 0 (descriptorsBytes (descriptors s)))))
 
 abbrev μ-loop : tie.MeasureT-loop
 μ-loop records registers windows handle count out₀ function n₀ b₀ out n b = bases - b

@@ -17,8 +17,8 @@ returns-2 c =
     let a = c .before .before .before .args in
     rw (lt-leb (a .at + size) (length (a .bytes .now)) (omega arith))
 
-fields-at-requires : tie.Need-fields-at-requires
-fields-at-requires c κs = omega arith
+descriptor-at-requires : tie.Need-descriptor-at-requires
+descriptor-at-requires c κs = omega arith
 
 following-requires : tie.Need-following-requires
 following-requires c κs = (omega arith, omega arith)
@@ -26,8 +26,8 @@ following-requires c κs = (omega arith, omega arith)
 returns-3 : tie.Need-returns-3
 returns-3 c =
     let a = c .before .before .before .before .before .args in
-    rw (le-leb (a .at + size) (length (a .bytes .now)) (omega arith), c .following .ensures, c .before .fields-at .ensures)
+    rw (le-leb (a .at + size) (length (a .bytes .now)) (omega arith), c .following .ensures, c .before .descriptor-at .ensures)
 
 pub descriptor-step-spec : {M : Type 1} → statement M
 descriptor-step-spec =
-    tie.close (tie.spec returns returns-2 fields-at-requires following-requires returns-3)
+    tie.close (tie.spec returns returns-2 descriptor-at-requires following-requires returns-3)

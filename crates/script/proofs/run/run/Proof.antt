@@ -19,7 +19,7 @@ abbrev μ-loop : tie.MeasureT-loop
 μ-loop script₀ header₀ records₀ registers₀ windows₀ offsets₀ hooks₀ used₀ cells₀ at₀ script header records registers windows offsets hooks used cells at =
     length script₀ - at
 
--- the turn that a place after it looks back on
+-- the turn that a position after it looks back on
 went : (c : tie.Else1 Inv-loop μ-loop)
     → let t = c .before .before .before .before .before in
     let l = t .before .before .before .before .before .before .before .before .before .before .before in

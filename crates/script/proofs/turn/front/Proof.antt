@@ -2,7 +2,7 @@
 use mathlib.Core.Path.{sym, _∙_}
 use lib.Seq.{length-take-le}
 use borrow.Author.Needs.{needs}
-use Rattle.call_encoding.specs.Format.{headerSize}
+use Rattle.call_encoding.specs.Format.{callHeaderSize}
 use Rattle.script.proofs.Fronts.{front-short, front-other, front-cut, front-whole}
 use Rattle.script.proofs.turn.front.Statement.{statement}
 use Rattle.script.proofs.turn.front.Tie as tie
@@ -14,7 +14,7 @@ sub-room : tie.Need-sub-room
 sub-room c = search needs
 
 slice-aggregate-decode : tie.Need-slice-aggregate-decode
-slice-aggregate-decode c = sym (length-take-le headerSize (c .before .before .before .args .script .now) (c .before .if1 .left))
+slice-aggregate-decode c = sym (length-take-le callHeaderSize (c .before .before .before .args .script .now) (c .before .if1 .left))
 
 decode-requires : tie.Need-decode-requires
 decode-requires c κs = search needs

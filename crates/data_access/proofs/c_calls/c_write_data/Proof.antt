@@ -1,0 +1,65 @@
+-- `c_write_data`: what is at the target that a known width is for, or the refusal.
+use mathlib.Core.Path.{sym, _∙_}
+use Rattle.data_cells.proofs.Inside.{target-inside}
+use denote.Ref.{now}
+use Rattle.data_cells.proofs.Named.{target-named}
+use borrow.Author.Needs.{needs}
+use Rattle.data_access.proofs.c_calls.c_write_data.Statement.{statement}
+use Rattle.data_access.proofs.c_calls.c_write_data.Tie as tie
+
+width-from-c-requires : tie.Need-width-from-c-requires
+width-from-c-requires c κs = search needs
+
+enum-known-width : tie.Need-enum-known-width
+enum-known-width c = search needs
+
+space-from-c-requires : tie.Need-space-from-c-requires
+space-from-c-requires c κs = search needs
+
+find-window-requires : tie.Need-find-window-requires
+find-window-requires c κs = search needs
+
+place-of-handle-requires : tie.Need-place-of-handle-requires
+place-of-handle-requires c κs = search needs
+
+cell-target-of-requires : tie.Need-cell-target-of-requires
+cell-target-of-requires c κs = search needs
+
+write-at-requires : tie.Need-write-at-requires
+write-at-requires c κs at order e = target-inside _ _ _ _ _ at order (sym (c .before .cell-target-of .ensures) ∙ e)
+
+enum-told : tie.Need-enum-told
+enum-told c = search needs
+
+same-length : tie.Need-same-length
+same-length c = search needs
+
+returns : tie.Need-returns
+returns c =
+    let a = c .before .before .before .before .before .before .before .before .before .before .before .before .before .args in
+    let known = sym (c .before .before .before .before .before .before .before .before .before .before .before .width-from-c .ensures) ∙ c .before .before .before .before .before .before .before .before .before .width .given .1 in
+    let target =
+    target-named (now (a .header)) (now (a .records)) (now (a .windows)) (now (a .offsets)) _ _ _ _ _ _ _ _
+    (c .before .before .before .before .before .before .find-window .ensures)
+    (c .before .before .before .before .before .place-of-handle .ensures)
+    (c .before .before .before .before .cell-target-of .ensures) in
+    rw (known, ← c .before .before .before .before .before .before .before .space-from-c .ensures, ← target) (c .before .before .write-at .ensures)
+
+returns-2 : tie.Need-returns-2
+returns-2 c = rw (sym (c .before .before .width-from-c .ensures) ∙ c .enum-told .given .1)
+
+pub c-write-data-spec : {M : Type 1} → statement M
+c-write-data-spec =
+    tie.close
+    (tie.spec
+    width-from-c-requires
+    enum-known-width
+    space-from-c-requires
+    find-window-requires
+    place-of-handle-requires
+    cell-target-of-requires
+    write-at-requires
+    enum-told
+    same-length
+    returns
+    returns-2)

@@ -1,0 +1,136 @@
+// Data calls as C asks for them, with numbers for widths and spaces. They are put together from the parts that `data_place` and the calls of `data` are made of:
+// the compiler then moves all of them into their one caller, the function for C, which saves a call and its many arguments.
+use crate::at_cells::fast_read_at;
+use crate::at_cells::read_at;
+use crate::at_cells::write_at;
+use board::address::BusAddress;
+use board::from_c::CWidth;
+use board::from_c::space_from_c;
+use board::from_c::width_from_c;
+use board::handle::place_of_handle;
+use board::layout::CellOffsets;
+use board::layout::Header;
+use board::layout::Records;
+use board::layout::Windows;
+use board::read::FastRead;
+use board::read::Read;
+use board::status::Status;
+use data_cells::target::cell_target_of;
+use data_window::find::find_window;
+ghost use mathlib.Core.Path.{_≡_};
+ghost use Rattle.board.specs.Spaces.{spaceNumber};
+ghost use Rattle.board.specs.FromC.{widthFromC, spaceFromC};
+ghost use Rattle.data_access.specs.Data.{dataWritten};
+ghost use Rattle.data_access.specs.CCalls.{cReadData, cFastReadData, cWriteData};
+
+// Reads a number of a width in a window.
+pub fn c_read_data(
+    header: &Header,
+    records: &Records,
+    windows: &Windows,
+    offsets: &CellOffsets,
+    cells: &[u8],
+    io: u32,
+    width: u32,
+    handle: u32,
+    address: u32,
+) -> Read
+    ensures { λ r. ⌜ r ≡ cReadData (widthFromC width) (now (header .entry)) (now (records .entry)) (now (windows .entry)) (now (offsets .entry)) (now (cells .entry)) (spaceNumber (spaceFromC io)) handle address ⌝ }
+{
+    match width_from_c(width) {
+        CWidth::Known(width) => {
+            let finding = find_window(
+                header,
+                records,
+                windows,
+                offsets,
+                cells.len(),
+                space_from_c(io),
+                width,
+                handle,
+                BusAddress(address),
+            );
+            let function = place_of_handle(handle);
+            let target = cell_target_of(records, offsets, cells.len(), width, function, finding);
+            read_at(cells, width, target)
+        }
+        CWidth::Other => Read {
+            status: Status::GENERAL_ERROR,
+            value: 0,
+        },
+    }
+}
+
+// The same, with a fault flag in place of the status.
+pub fn c_fast_read_data(
+    header: &Header,
+    records: &Records,
+    windows: &Windows,
+    offsets: &CellOffsets,
+    cells: &[u8],
+    io: u32,
+    width: u32,
+    handle: u32,
+    address: u32,
+) -> FastRead
+    ensures { λ r. ⌜ r ≡ cFastReadData (widthFromC width) (now (header .entry)) (now (records .entry)) (now (windows .entry)) (now (offsets .entry)) (now (cells .entry)) (spaceNumber (spaceFromC io)) handle address ⌝ }
+{
+    match width_from_c(width) {
+        CWidth::Known(width) => {
+            let finding = find_window(
+                header,
+                records,
+                windows,
+                offsets,
+                cells.len(),
+                space_from_c(io),
+                width,
+                handle,
+                BusAddress(address),
+            );
+            let function = place_of_handle(handle);
+            let target = cell_target_of(records, offsets, cells.len(), width, function, finding);
+            fast_read_at(cells, width, target)
+        }
+        CWidth::Other => FastRead {
+            value: 0xFFFFFFFF,
+            fault: true,
+        },
+    }
+}
+
+// Writes the low bytes of a value in a window.
+pub fn c_write_data(
+    header: &Header,
+    records: &Records,
+    windows: &Windows,
+    offsets: &CellOffsets,
+    cells: &mut [u8],
+    io: u32,
+    width: u32,
+    handle: u32,
+    address: u32,
+    value: u32,
+) -> Status
+    ensures { λ r. ⌜ dataWritten r (now (cells .exit)) ≡ cWriteData (widthFromC width) (now (header .entry)) (now (records .entry)) (now (windows .entry)) (now (offsets .entry)) (now (cells .entry)) (spaceNumber (spaceFromC io)) handle address value ⌝ }
+{
+    match width_from_c(width) {
+        CWidth::Known(width) => {
+            let finding = find_window(
+                header,
+                records,
+                windows,
+                offsets,
+                cells.len(),
+                space_from_c(io),
+                width,
+                handle,
+                BusAddress(address),
+            );
+            let function = place_of_handle(handle);
+            let target = cell_target_of(records, offsets, cells.len(), width, function, finding);
+            write_at(cells, width, value, target)
+        }
+        CWidth::Other => Status::GENERAL_ERROR,
+    }
+}

@@ -1,0 +1,110 @@
+// Where the cells of an access stand.
+use board::address::BusAddress;
+use board::handle::place_of_handle;
+use board::layout::BASES;
+use board::layout::CellOffsets;
+use board::layout::Header;
+use board::layout::Records;
+use board::layout::Windows;
+use board::layout::byte_order;
+use board::space::Space;
+use data_order::order::cell_distance;
+use data_window::find::Finding;
+use data_window::find::find_window;
+use data_window::refusal::Refusal;
+use numbers::number::Width;
+use numbers::number::bytes_by_shift;
+use numbers::number::u32_at;
+ghost use mathlib.Core.Path.{_≡_};
+ghost use lib.ListN.{getD};
+ghost use Prim.Native.Nat.{_+_, _*_};
+ghost use Rattle.board.specs.Layout.{bases, byteOrder};
+ghost use Rattle.numbers.specs.Numbers.{bytes};
+ghost use Rattle.board.specs.Spaces.{spaceNumber};
+ghost use Rattle.data_cells.specs.Cells.{cellsAt, cellTargetIn, cellTarget};
+
+// The first cell and the byte order of an access, or why it is refused.
+pub enum CellTarget {
+    At { at: usize, order: u8 },
+    Refused(Refusal),
+}
+
+// The cells for a distance into the window of a base register.
+fn cells_at(
+    records: &Records,
+    offsets: &CellOffsets,
+    room: usize,
+    width: Width,
+    function: u32,
+    base: u8,
+    distance: u32,
+) -> CellTarget
+    ensures { λ r. ⌜ r ≡ cellsAt (getD (now (offsets .entry)) (bases * function + base) 0) (byteOrder (now (records .entry)) function base) room (bytes width) distance ⌝ }
+{
+    let order = byte_order(records, function, base);
+    let begin = u32_at(offsets, BASES * (function as usize) + base as usize);
+    let at = begin as usize + cell_distance(order, width, distance) as usize;
+    if room < at + bytes_by_shift(width) as usize {
+        return CellTarget::Refused(Refusal::PastBuffer);
+    }
+    CellTarget::At {
+        at: at,
+        order: order,
+    }
+}
+
+// The cells for what was found in the windows of the function at a place, from 0.
+pub fn cell_target_of(
+    records: &Records,
+    offsets: &CellOffsets,
+    room: usize,
+    width: Width,
+    function: u32,
+    finding: Finding,
+) -> CellTarget
+    ensures { λ r. ⌜ r ≡ cellTargetIn (now (records .entry)) (now (offsets .entry)) room (bytes width) function finding ⌝ }
+{
+    match finding {
+        Finding::Found {
+            base,
+            distance,
+            remaining: _,
+        } => cells_at(records, offsets, room, width, function, base, distance),
+        Finding::Refused(refusal) => CellTarget::Refused(refusal),
+    }
+}
+
+// The cells that an access is for.
+pub fn cell_target(
+    header: &Header,
+    records: &Records,
+    windows: &Windows,
+    offsets: &CellOffsets,
+    room: usize,
+    space: Space,
+    width: Width,
+    handle: u32,
+    address: BusAddress,
+) -> CellTarget
+    ensures { λ r. ⌜ r ≡ cellTarget (bytes width) (now (header .entry)) (now (records .entry)) (now (windows .entry)) (now (offsets .entry)) room (spaceNumber space) handle (address .0) ⌝ }
+{
+    let finding = find_window(
+        header,
+        records,
+        windows,
+        offsets,
+        room,
+        space,
+        width,
+        handle,
+        address,
+    );
+    cell_target_of(
+        records,
+        offsets,
+        room,
+        width,
+        place_of_handle(handle),
+        finding,
+    )
+}
