@@ -1,4 +1,5 @@
-// The conversions between bus addresses and CPU addresses, by handle.
+// The conversions between bus addresses and CPU addresses, by handle. The two kinds are types of
+// their own, so that an address of one kind is not taken for one of the other.
 use board::address::BusAddress;
 use board::address::CpuAddress;
 use board::handle::is_handle;

@@ -1,4 +1,5 @@
-// Searches and configuration calls for C. A width is a number here; another than 1, 2 or 4 is refused before all else.
+// Searches and configuration calls for C. A width is a number here; another than 1, 2 or 4 is
+// refused before all else.
 use board::from_c::CWidth;
 use board::from_c::width_from_c;
 use board::layout::Header;
@@ -17,7 +18,15 @@ ghost use Rattle.board.specs.Layout.{registerByte};
 ghost use Rattle.search.specs.Search.{devices, classes, searchNumber};
 ghost use Rattle.config_write.specs.Write.{configWritten};
 ghost use Rattle.board.specs.FromC.{widthFromC};
-ghost use Rattle.bios.specs.Exports.{statusNumber, readNumbers, cReadConfig, fastNumbers, fastShown, cFastReadConfig, cWriteConfig};
+ghost use Rattle.bios.specs.Exports.{
+  statusNumber,
+  readNumbers,
+  cReadConfig,
+  fastNumbers,
+  fastShown,
+  cFastReadConfig,
+  cWriteConfig,
+};
 
 // The handle of the match with so many matches before it, or -4.
 #[no_mangle]
@@ -27,7 +36,9 @@ pub extern "C" fn bios_find_pci_device(
     id: u32,
     index: u32,
 ) -> i32
-    ensures { λ r. ⌜ r ≡ searchNumber (devices id (functionCount (now (header .entry))) (registerByte (now (registers .entry)))) index ⌝ }
+    ensures { λ r. ⌜ r ≡ searchNumber
+        (devices id (functionCount (now (header .entry))) (registerByte (now (registers .entry))))
+        index ⌝ }
 {
     let a = device_answer(header, registers, id, index);
     a.number
@@ -40,7 +51,10 @@ pub extern "C" fn bios_find_pci_classcode(
     class: u32,
     index: u32,
 ) -> i32
-    ensures { λ r. ⌜ r ≡ searchNumber (classes class (functionCount (now (header .entry))) (registerByte (now (registers .entry)))) index ⌝ }
+    ensures { λ r. ⌜ r ≡ searchNumber
+        (classes class
+        (functionCount (now (header .entry))) (registerByte (now (registers .entry))))
+        index ⌝ }
 {
     let a = class_answer(header, registers, class, index);
     a.number
@@ -56,7 +70,9 @@ pub extern "C" fn bios_read_config(
     register: u8,
     value: &mut u32,
 ) -> i32
-    ensures { λ r. ⌜ readNumbers r (now (value .exit)) ≡ cReadConfig (widthFromC width) (now (header .entry)) (now (registers .entry)) handle register ⌝ }
+    ensures { λ r. ⌜ readNumbers r (now (value .exit))
+        ≡ cReadConfig (widthFromC width) (now (header .entry)) (now (registers .entry))
+        handle register ⌝ }
 {
     match width_from_c(width) {
         CWidth::Known(width) => {
@@ -81,7 +97,9 @@ pub extern "C" fn bios_fast_read_config(
     register: u8,
     fault: &mut u32,
 ) -> u32
-    ensures { λ r. ⌜ fastNumbers r (now (fault .exit)) ≡ fastShown (cFastReadConfig (widthFromC width) (now (header .entry)) (now (registers .entry)) handle register) ⌝ }
+    ensures { λ r. ⌜ fastNumbers r (now (fault .exit))
+        ≡ fastShown (cFastReadConfig
+        (widthFromC width) (now (header .entry)) (now (registers .entry)) handle register) ⌝ }
 {
     match width_from_c(width) {
         CWidth::Known(width) => {
@@ -108,7 +126,11 @@ pub extern "C" fn bios_write_config(
     register: u8,
     value: u32,
 ) -> i32
-    ensures { λ r. ⌜ configWritten (statusNumber r) (now (registers .exit)) (now (windows .exit)) ≡ cWriteConfig (widthFromC width) (now (header .entry)) (now (records .entry)) (now (registers .entry)) (now (windows .entry)) handle register value ⌝ }
+    ensures { λ r. ⌜ configWritten
+        (statusNumber r) (now (registers .exit)) (now (windows .exit))
+        ≡ cWriteConfig (widthFromC width)
+        (now (header .entry)) (now (records .entry)) (now (registers .entry)) (now (windows .entry))
+        handle register value ⌝ }
 {
     match width_from_c(width) {
         CWidth::Known(width) => {

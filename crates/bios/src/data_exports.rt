@@ -1,4 +1,5 @@
-// Data calls and address conversions for C. A width is a number here; another than 1, 2 or 4 is refused before all else.
+// Data calls and address conversions for C. A width is a number here; another than 1, 2 or 4 is
+// refused before all else.
 use address_convert::convert::bus_to_cpu;
 use address_convert::convert::cpu_to_bus;
 use board::address::BusAddress;
@@ -17,7 +18,14 @@ ghost use Rattle.data_access.specs.Data.{dataWritten};
 ghost use Rattle.board.specs.Addresses.{bus, cpu};
 ghost use Rattle.board.specs.Spaces.{spaceNumber};
 ghost use Rattle.board.specs.FromC.{widthFromC, spaceFromC};
-ghost use Rattle.bios.specs.Exports.{statusNumber, readNumbers, fastNumbers, fastShown, toCpuNumbers, toBusNumbers};
+ghost use Rattle.bios.specs.Exports.{
+  statusNumber,
+  readNumbers,
+  fastNumbers,
+  fastShown,
+  toCpuNumbers,
+  toBusNumbers,
+};
 
 // Reads a number of a width in a window; the value, 0 where it is refused, goes to `value`.
 #[no_mangle]
@@ -33,7 +41,10 @@ pub extern "C" fn bios_read_data(
     address: u32,
     value: &mut u32,
 ) -> i32
-    ensures { λ r. ⌜ readNumbers r (now (value .exit)) ≡ cReadData (widthFromC width) (now (header .entry)) (now (records .entry)) (now (windows .entry)) (now (offsets .entry)) (now (cells .entry)) (spaceNumber (spaceFromC io)) handle address ⌝ }
+    ensures { λ r. ⌜ readNumbers r (now (value .exit))
+        ≡ cReadData (widthFromC width)
+        (now (header .entry)) (now (records .entry)) (now (windows .entry)) (now (offsets .entry))
+        (now (cells .entry)) (spaceNumber (spaceFromC io)) handle address ⌝ }
 {
     let read = c_read_data(
         header,
@@ -64,7 +75,10 @@ pub extern "C" fn bios_fast_read_data(
     address: u32,
     fault: &mut u32,
 ) -> u32
-    ensures { λ r. ⌜ fastNumbers r (now (fault .exit)) ≡ fastShown (cFastReadData (widthFromC width) (now (header .entry)) (now (records .entry)) (now (windows .entry)) (now (offsets .entry)) (now (cells .entry)) (spaceNumber (spaceFromC io)) handle address) ⌝ }
+    ensures { λ r. ⌜ fastNumbers r (now (fault .exit))
+        ≡ fastShown (cFastReadData (widthFromC width)
+        (now (header .entry)) (now (records .entry)) (now (windows .entry)) (now (offsets .entry))
+        (now (cells .entry)) (spaceNumber (spaceFromC io)) handle address) ⌝ }
 {
     let read = c_fast_read_data(
         header,
@@ -95,7 +109,10 @@ pub extern "C" fn bios_write_data(
     address: u32,
     value: u32,
 ) -> i32
-    ensures { λ r. ⌜ dataWritten (statusNumber r) (now (cells .exit)) ≡ cWriteData (widthFromC width) (now (header .entry)) (now (records .entry)) (now (windows .entry)) (now (offsets .entry)) (now (cells .entry)) (spaceNumber (spaceFromC io)) handle address value ⌝ }
+    ensures { λ r. ⌜ dataWritten (statusNumber r) (now (cells .exit))
+        ≡ cWriteData (widthFromC width)
+        (now (header .entry)) (now (records .entry)) (now (windows .entry)) (now (offsets .entry))
+        (now (cells .entry)) (spaceNumber (spaceFromC io)) handle address value ⌝ }
 {
     let status = c_write_data(
         header,
@@ -121,7 +138,8 @@ pub extern "C" fn bios_bus_to_cpu(
     address: u32,
     cpu: &mut u32,
 ) -> i32
-    ensures { λ r. ⌜ toCpuNumbers r (now (cpu .exit)) ≡ busToCpu (now (header .entry)) (now (records .entry)) handle (bus address) ⌝ }
+    ensures { λ r. ⌜ toCpuNumbers r (now (cpu .exit))
+        ≡ busToCpu (now (header .entry)) (now (records .entry)) handle (bus address) ⌝ }
 {
     let to = bus_to_cpu(header, records, handle, BusAddress(address));
     *cpu = to.address.0;
@@ -137,7 +155,8 @@ pub extern "C" fn bios_cpu_to_bus(
     address: u32,
     bus: &mut u32,
 ) -> i32
-    ensures { λ r. ⌜ toBusNumbers r (now (bus .exit)) ≡ cpuToBus (now (header .entry)) (now (records .entry)) handle (cpu address) ⌝ }
+    ensures { λ r. ⌜ toBusNumbers r (now (bus .exit))
+        ≡ cpuToBus (now (header .entry)) (now (records .entry)) handle (cpu address) ⌝ }
 {
     let to = cpu_to_bus(header, records, handle, CpuAddress(address));
     *bus = to.address.0;

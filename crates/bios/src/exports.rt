@@ -1,4 +1,5 @@
-// Calls for C: numbers and lent memory in, numbers out. A slice is a pointer and a length, an array or room for a number is a pointer.
+// Calls for C: numbers and lent memory in, numbers out. A slice is a pointer and a length, an array
+// or room for a number is a pointer.
 use board::layout::CellOffsets;
 use board::layout::Header;
 use board::layout::Hooks;
@@ -22,7 +23,8 @@ ghost use Rattle.load.specs.Load.{loadOutcome, load};
 ghost use Rattle.image_writer.specs.Write.{writerOutcome, writeImage};
 ghost use Rattle.bios.specs.Exports.{verdictNumbers, statusNumber, shown, shownWindow};
 
-// The number of the first refusal of an image with so many cells, 0 for none; the place of a bad record, else 0, goes to `place`.
+// The number of the first refusal of an image with so many cells, 0 for none; the place of a bad
+// record, else 0, goes to `place`.
 #[no_mangle]
 pub extern "C" fn bios_check_image(image: &[u8], room: usize, place: &mut u32) -> i32
     ensures { λ r. ⌜ verdictNumbers r (now (place .exit)) ≡ checked (now (image .entry)) room ⌝ }
@@ -46,7 +48,15 @@ pub extern "C" fn bios_load(
     cells: &mut [u8],
     place: &mut u32,
 ) -> i32
-    ensures { λ r. ⌜ loadOutcome (verdictNumbers r (now (place .exit))) (parts (now (header .exit)) (now (records .exit)) (now (registers .exit)) (now (windows .exit)) (now (offsets .exit)) (now (hooks .exit)) (now (used .exit)) (now (cells .exit))) ≡ load (parts (now (header .entry)) (now (records .entry)) (now (registers .entry)) (now (windows .entry)) (now (offsets .entry)) (now (hooks .entry)) (now (used .entry)) (now (cells .entry))) (now (image .entry)) ⌝ }
+    ensures { λ r. ⌜ loadOutcome (verdictNumbers r (now (place .exit)))
+        (parts (now (header .exit)) (now (records .exit)) (now (registers .exit))
+        (now (windows .exit)) (now (offsets .exit))
+        (now (hooks .exit)) (now (used .exit)) (now (cells .exit)))
+        ≡ load
+        (parts (now (header .entry)) (now (records .entry)) (now (registers .entry))
+        (now (windows .entry)) (now (offsets .entry))
+        (now (hooks .entry)) (now (used .entry)) (now (cells .entry)))
+        (now (image .entry)) ⌝ }
 {
     let v = load(
         image,
@@ -75,7 +85,14 @@ pub extern "C" fn bios_reset(
     used: &mut Used,
     cells: &mut [u8],
 ) -> i32
-    ensures { λ r. ⌜ resetOutcome (statusNumber r) (parts (now (header .entry)) (now (records .entry)) (now (registers .exit)) (now (windows .exit)) (now (offsets .entry)) (now (hooks .exit)) (now (used .exit)) (now (cells .exit))) ≡ reset (parts (now (header .entry)) (now (records .entry)) (now (registers .entry)) (now (windows .entry)) (now (offsets .entry)) (now (hooks .entry)) (now (used .entry)) (now (cells .entry))) ⌝ }
+    ensures { λ r. ⌜ resetOutcome (statusNumber r)
+        (parts (now (header .entry)) (now (records .entry)) (now (registers .exit))
+        (now (windows .exit)) (now (offsets .entry))
+        (now (hooks .exit)) (now (used .exit)) (now (cells .exit)))
+        ≡ reset
+        (parts (now (header .entry)) (now (records .entry)) (now (registers .entry))
+        (now (windows .entry)) (now (offsets .entry))
+        (now (hooks .entry)) (now (used .entry)) (now (cells .entry))) ⌝ }
 {
     let s = reset(
         header,
@@ -93,7 +110,8 @@ pub extern "C" fn bios_reset(
 // Writes the loaded board as an image; the number of the refusal, 0 for none.
 #[no_mangle]
 pub extern "C" fn bios_write_image(header: &Header, records: &Records, out: &mut [u8]) -> u32
-    ensures { λ r. ⌜ writerOutcome r (now (out .exit)) ≡ writeImage (now (header .entry)) (now (records .entry)) (now (out .entry)) ⌝ }
+    ensures { λ r. ⌜ writerOutcome r (now (out .exit))
+        ≡ writeImage (now (header .entry)) (now (records .entry)) (now (out .entry)) ⌝ }
 {
     write_image(header, records, out) as u32
 }
@@ -101,7 +119,8 @@ pub extern "C" fn bios_write_image(header: &Header, records: &Records, out: &mut
 // Window n of the list, from 0: its number, and its values or zeros.
 #[no_mangle]
 pub extern "C" fn bios_list_window(windows: &Windows, n: u32, values: &mut Values) -> i32
-    ensures { λ r. ⌜ shown r (now (values .exit)) ≡ shownWindow (unpacked (now (windows .entry))) n ⌝ }
+    ensures { λ r. ⌜ shown r (now (values .exit))
+        ≡ shownWindow (unpacked (now (windows .entry))) n ⌝ }
 {
     let a = of_listing(list_window(windows, n));
     let v = a.values;

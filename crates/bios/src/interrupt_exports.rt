@@ -30,7 +30,9 @@ pub extern "C" fn bios_hook_interrupt(
     handler: u32,
     parameter: u32,
 ) -> i32
-    ensures { λ r. ⌜ hookOutcome (statusNumber r) (now (hooks .exit)) ≡ hookInterrupt (now (header .entry)) (now (records .entry)) (now (hooks .entry)) handle handler parameter ⌝ }
+    ensures { λ r. ⌜ hookOutcome (statusNumber r) (now (hooks .exit))
+        ≡ hookInterrupt (now (header .entry)) (now (records .entry)) (now (hooks .entry))
+        handle handler parameter ⌝ }
 {
     hook_interrupt(header, records, hooks, handle, handler, parameter).number()
 }
@@ -38,12 +40,14 @@ pub extern "C" fn bios_hook_interrupt(
 // Takes a function's hook from its chain.
 #[no_mangle]
 pub extern "C" fn bios_unhook_interrupt(header: &Header, hooks: &mut Hooks, handle: u32) -> i32
-    ensures { λ r. ⌜ hookOutcome (statusNumber r) (now (hooks .exit)) ≡ unhookInterrupt (now (header .entry)) (now (hooks .entry)) handle ⌝ }
+    ensures { λ r. ⌜ hookOutcome (statusNumber r) (now (hooks .exit))
+        ≡ unhookInterrupt (now (header .entry)) (now (hooks .entry)) handle ⌝ }
 {
     unhook_interrupt(header, hooks, handle).number()
 }
 
-// The hook at an index of a line's chain, or a number; handle, handler and parameter go to the first three of `values`, zeros to the rest.
+// The hook at an index of a line's chain, or a number; handle, handler and parameter go to the
+// first three of `values`, zeros to the rest.
 #[no_mangle]
 pub extern "C" fn bios_list_chain(
     records: &Records,
@@ -52,7 +56,8 @@ pub extern "C" fn bios_list_chain(
     index: u32,
     values: &mut Values,
 ) -> i32
-    ensures { λ r. ⌜ shown r (now (values .exit)) ≡ shownHook (chainOf (now (records .entry)) (now (hooks .entry)) line) line index ⌝ }
+    ensures { λ r. ⌜ shown r (now (values .exit))
+        ≡ shownHook (chainOf (now (records .entry)) (now (hooks .entry)) line) line index ⌝ }
 {
     let a = of_chain(list_chain(records, hooks, line, index));
     let v = a.values;
@@ -69,7 +74,8 @@ pub extern "C" fn bios_get_card_used(
     mark: &mut u32,
     call_back: &mut u32,
 ) -> i32
-    ensures { λ r. ⌜ cardUsed r (now (mark .exit)) (now («call_back» .exit)) ≡ getCardUsed (now (header .entry)) (now (used .entry)) handle ⌝ }
+    ensures { λ r. ⌜ cardUsed r (now (mark .exit)) (now («call_back» .exit))
+        ≡ getCardUsed (now (header .entry)) (now (used .entry)) handle ⌝ }
 {
     let u = get_card_used(header, used, handle);
     *mark = u.used;
@@ -77,6 +83,7 @@ pub extern "C" fn bios_get_card_used(
     u.status.number()
 }
 
+// Sets them.
 #[no_mangle]
 pub extern "C" fn bios_set_card_used(
     header: &Header,
@@ -85,7 +92,8 @@ pub extern "C" fn bios_set_card_used(
     mark: u32,
     call_back: u32,
 ) -> i32
-    ensures { λ r. ⌜ markOutcome (statusNumber r) (now (used .exit)) ≡ setCardUsed (now (header .entry)) (now (used .entry)) handle mark «call_back» ⌝ }
+    ensures { λ r. ⌜ markOutcome (statusNumber r) (now (used .exit))
+        ≡ setCardUsed (now (header .entry)) (now (used .entry)) handle mark «call_back» ⌝ }
 {
     set_card_used(header, used, handle, mark, call_back).number()
 }

@@ -38,12 +38,16 @@ pub extern "C" fn bios_get_resource(
     handle: u32,
     out: &mut [u8],
 ) -> i32
-    ensures { λ r. ⌜ resourceOutcome (statusNumber r) (now (out .exit)) ≡ getResource (now (header .entry)) (now (records .entry)) (now (registers .entry)) (now (windows .entry)) handle (now (out .entry)) ⌝ }
+    ensures { λ r. ⌜ resourceOutcome (statusNumber r) (now (out .exit))
+        ≡ getResource
+        (now (header .entry)) (now (records .entry)) (now (registers .entry)) (now (windows .entry))
+        handle (now (out .entry)) ⌝ }
 {
     get_resource(header, records, registers, windows, handle, out).number()
 }
 
-// The descriptor at a position, and the position after it: 1 where there is one, else 0 with zeros and the position as it was.
+// The descriptor at a position, and the position after it: 1 where there is one, else 0 with zeros
+// and the position as it was.
 #[no_mangle]
 pub extern "C" fn bios_descriptor_step(
     bytes: &[u8],
@@ -51,7 +55,8 @@ pub extern "C" fn bios_descriptor_step(
     fields: &mut DescriptorFields,
     following: &mut usize,
 ) -> u32
-    ensures { λ r. ⌜ stepNumbers r (now (fields .exit)) (now (following .exit)) ≡ stepShown at (stepAt (now (bytes .entry)) at) ⌝ }
+    ensures { λ r. ⌜ stepNumbers r (now (fields .exit)) (now (following .exit))
+        ≡ stepShown at (stepAt (now (bytes .entry)) at) ⌝ }
 {
     match descriptor_step(bytes, at) {
         Step::Found {

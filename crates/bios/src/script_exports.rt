@@ -11,7 +11,8 @@ ghost use mathlib.Core.Path.{_≡_};
 ghost use Rattle.board.specs.Parts.{parts};
 ghost use Rattle.script.specs.Script.{ran, runOf};
 
-// Performs the calls of a script from the board before the first load. Gives the position of the first malformed call, or the script's length.
+// Performs the calls of a script from the board before the first load. Gives the position of the
+// first malformed call, or the script's length.
 #[no_mangle]
 pub extern "C" fn bios_run_script(
     script: &mut [u8],
@@ -24,7 +25,11 @@ pub extern "C" fn bios_run_script(
     used: &mut Used,
     cells: &mut [u8],
 ) -> usize
-    ensures { λ r. ⌜ ran r (now (script .exit)) (parts (now (header .exit)) (now (records .exit)) (now (registers .exit)) (now (windows .exit)) (now (offsets .exit)) (now (hooks .exit)) (now (used .exit)) (now (cells .exit))) ≡ runOf (now (script .entry)) (now (cells .entry)) ⌝ }
+    ensures { λ r. ⌜ ran r (now (script .exit))
+        (parts (now (header .exit)) (now (records .exit)) (now (registers .exit))
+        (now (windows .exit)) (now (offsets .exit))
+        (now (hooks .exit)) (now (used .exit)) (now (cells .exit)))
+        ≡ runOf (now (script .entry)) (now (cells .entry)) ⌝ }
 {
     run(
         script,

@@ -1,4 +1,5 @@
--- Where things stand in the lent parts: document 01, "The modelled board" and "Board image". One name for each length and each position.
+-- Where things stand in the lent parts: document 01, "The modelled board" and "Board image". One
+-- name for each length and each position.
 use Prim.Native.Nat.{ℕ, _+_, _*_}
 use mathlib.Core.List.{List}
 use lib.ListN.{getD}
@@ -14,7 +15,8 @@ bases = 6
 abbrev pub windowsMax : ℕ
 windowsMax = 96
 
--- bytes of a record as the lent records keep it, and where its parts begin after the 256 reset values
+-- bytes of a record as the lent records keep it, and where its parts begin after the 256 reset
+-- values
 abbrev pub recordSize : ℕ
 recordSize = 544
 
@@ -30,7 +32,8 @@ offsetAt = 536
 abbrev pub dmaOffsetAt : ℕ
 dmaOffsetAt = 540
 
--- bytes of a window entry; registers of a function; numbers of the header, of a hook and of a used mark
+-- bytes of a window entry; registers of a function; numbers of the header, of a hook and of a used
+-- mark
 abbrev pub entrySize : ℕ
 entrySize = 4
 

@@ -6,14 +6,14 @@ use Rattle.board.specs.declared.read.Read.{Read}
 use Rattle.board.specs.declared.read.FastRead.{FastRead}
 use Rattle.board.specs.declared.status.Status.{Status}
 
--- a refused read returns 0
+-- an accepted read; a refused one returns 0
 abbrev pub acceptedRead : ℕ → Read
 acceptedRead v = record { status = successful; value = v }
 
 abbrev pub refusedRead : Status → Read
 refusedRead s = record { status = s; value = 0 }
 
--- a refused fast read returns all ones of its width and a set fault flag
+-- an accepted fast read; a refused one returns all ones of its width and a set fault flag
 abbrev pub acceptedFast : ℕ → FastRead
 acceptedFast v = record { value = v; fault = false }
 

@@ -1,4 +1,5 @@
-// PCI bus addresses and physical CPU addresses, and the only two ways between them.
+// PCI bus addresses and physical CPU addresses, each a number with its own type, and the only two
+// ways between them. Both wrap modulo 2^32, so that they undo each other (proofs/Addresses.antt).
 ghost use mathlib.Core.Path.{_≡_};
 ghost use Prim.Native.Nat.{_+_, _-_, _%_, _^_};
 ghost use Rattle.board.specs.Addresses.{cpuAddress, busAddress};

@@ -6,10 +6,13 @@ ghost use Rattle.board.specs.FromC.{widthFromC, spaceFromC};
 
 // A width that C hands over; every other number is refused.
 pub enum CWidth {
+    // 1, 2 or 4.
     Known(Width),
+    // Every other number.
     Other,
 }
 
+// The width of so many bytes.
 pub fn width_from_c(width: u32) -> CWidth
     ensures { λ r. ⌜ r ≡ widthFromC width ⌝ }
 {

@@ -30,7 +30,8 @@ pub fn place(handle: u32) -> u32
     if handle == 0 { 0 } else { handle - 1 }
 }
 
-// The same of a number that is not 0, without a test, for data calls. Data reads were slower when they shared the exact one (docs/DECISIONS.md).
+// The same of a number that is not 0, without a test, for data calls; docs/DECISIONS.md says what
+// the test costs them.
 pub fn place_of_handle(handle: u32) -> u32
     ensures { λ r. ⌜ (0 < handle → r ≡ handle - 1) ⌝ }
 {

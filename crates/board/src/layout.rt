@@ -1,10 +1,23 @@
-// The parts of a board that the caller lends: one name for each length and each position, and a total reader for each kind of byte and number.
+// The parts of a board that the caller lends: one name for each length and each position, and a
+// total reader for each kind of byte and number. They are arrays and no struct, so that a call
+// copies nothing and C can hand them over.
 use numbers::number::Width;
 use numbers::number::big_at;
 use numbers::number::byte_at;
 use numbers::number::little_at;
 ghost use mathlib.Core.Path.{_≡_};
-ghost use Rattle.board.specs.Layout.{recordByte, maskByte, exponent, byteOrder, widths, offset, dmaOffset, entryByte, registerByte, baseRegister};
+ghost use Rattle.board.specs.Layout.{
+  recordByte,
+  maskByte,
+  exponent,
+  byteOrder,
+  widths,
+  offset,
+  dmaOffset,
+  entryByte,
+  registerByte,
+  baseRegister,
+};
 ghost use Rattle.numbers.specs.Numbers.{bytes, little, big};
 
 // Functions of a board, at most.
@@ -15,7 +28,8 @@ pub const BASES: usize = 6;
 
 pub const WINDOWS: usize = FUNCTIONS * BASES;
 
-// Bytes of a kept record, as the lent part `records` holds it: reset values, masks, window entries, offset, dmaoffset.
+// Bytes of a record as the lent part `records` keeps it, and where its parts begin after the 256
+// reset values: masks, window entries of ENTRY bytes each, offset, dmaoffset.
 pub const RECORD: usize = 544;
 
 pub const MASKS: u32 = 256;
@@ -35,7 +49,7 @@ pub const COMMAND: u8 = 0x04;
 
 pub const BASE_0: u8 = 0x10;
 
-// Numbers of the header, of a hook and of a used mark.
+// How many numbers the header, a hook and a used mark have.
 pub const HEADER: usize = 4;
 
 pub const HOOK: usize = 3;
@@ -54,7 +68,8 @@ pub type Registers = [u8; FUNCTIONS * REGISTER_BYTES];
 // The kept window list: a number a window, zeros after the last.
 pub type Windows = [u64; WINDOWS];
 
-// Where the cells of base register b of the function at place i begin, at 6 i + b; the total last.
+// Where the cells of each slot begin, the total last. Base register b of the function at place i is
+// slot 6 i + b.
 pub type CellOffsets = [u32; WINDOWS + 1];
 
 // Handle, handler and parameter of each hook; zeros after the last.
@@ -120,13 +135,14 @@ fn record_long(records: &Records, function: u32, at: u32) -> u32
     )
 }
 
-// What the CPU address of a bus address is above it.
+// What is added to a bus address to give the CPU address.
 pub fn offset(records: &Records, function: u32) -> u32
     ensures { λ r. ⌜ r ≡ offset (now (records .entry)) function ⌝ }
 {
     record_long(records, function, OFFSET)
 }
 
+// The dmaoffset, which descriptors hand on.
 pub fn dma_offset(records: &Records, function: u32) -> u32
     ensures { λ r. ⌜ r ≡ dmaOffset (now (records .entry)) function ⌝ }
 {
@@ -145,7 +161,8 @@ pub fn register_byte(registers: &Registers, function: u32, register: u8) -> u8
 
 // The number at a register of a function, least byte first.
 fn number_of_registers(registers: &Registers, function: u32, at: u32, width: Width) -> u32
-    ensures { λ r. ⌜ r ≡ little (bytes width) (registerByte (now (registers .entry)) function) at ⌝ }
+    ensures { λ r. ⌜ r
+        ≡ little (bytes width) (registerByte (now (registers .entry)) function) at ⌝ }
 {
     little_at(
         registers,
@@ -156,7 +173,8 @@ fn number_of_registers(registers: &Registers, function: u32, at: u32, width: Wid
 
 // The registers of a width from a register on, as one number.
 pub fn register_number(registers: &Registers, function: u32, register: u8, width: Width) -> u32
-    ensures { λ r. ⌜ r ≡ little (bytes width) (registerByte (now (registers .entry)) function) register ⌝ }
+    ensures { λ r. ⌜ r
+        ≡ little (bytes width) (registerByte (now (registers .entry)) function) register ⌝ }
 {
     number_of_registers(registers, function, register as u32, width)
 }

@@ -1,5 +1,7 @@
 // The two address spaces.
 pub enum Space {
+    // Number 0.
     Memory,
+    // Number 1.
     Io,
 }

@@ -1,4 +1,5 @@
--- Answers as numbers: rules on plain values, which the program's step and the reference machine share.
+-- Answers as numbers: document 01, "Numbers handed back". They are rules on plain values, which the
+-- program's step and the reference machine share.
 use Prim.Native.Nat.{ℕ}
 use mathlib.Core.Bool.{Bool, true, false, not}
 use mathlib.Core.List.{List, _∷_, _++_}
@@ -14,7 +15,7 @@ use Rattle.card_used.specs.declared.used.CardUsed.{CardUsed}
 use Rattle.image_refusals.specs.declared.verdict.Verdict.{Verdict}
 use Rattle.call.specs.declared.answer.Answer.{Answer}
 
--- numbers other than 0 refuse
+-- numbers other than 0 refuse; a search, whose number may be a handle, has a rule of its own below
 abbrev pub refuses : ℤ → Bool
 refuses z = not (isZero z)
 

@@ -1,4 +1,4 @@
-// The answer of a call, and how each kind of outcome gives it.
+// The answer of a call, and how it is made of what each function hands back.
 use address_convert::convert::ToBus;
 use address_convert::convert::ToCpu;
 use board::read::FastRead;
@@ -16,16 +16,36 @@ ghost use mathlib.Core.List.{[], _∷_};
 ghost use lib.IntN.{pos};
 ghost use lib.ListN.{replicate};
 ghost use Prim.Native.Nat.{_<_};
-ghost use Rattle.window_listing.specs.Listing.{listingNumber, listingValues, listedSpace, listedStart, listedLength};
+ghost use Rattle.window_listing.specs.Listing.{
+  listingNumber,
+  listingValues,
+  listedSpace,
+  listedStart,
+  listedLength,
+};
 ghost use Rattle.search.specs.Search.{foundNumber};
 ghost use Rattle.interrupt_list.specs.Listing.{chainNumberOf, chainValuesOf};
-ghost use Rattle.call.specs.Answers.{answer, zeros, one, ofStatus, ofVerdict, ofSearch, ofRead, ofFastRead, ofToCpu, ofToBus, ofChain, ofUsed};
+ghost use Rattle.call.specs.Answers.{
+  answer,
+  zeros,
+  one,
+  ofStatus,
+  ofVerdict,
+  ofSearch,
+  ofRead,
+  ofFastRead,
+  ofToCpu,
+  ofToBus,
+  ofChain,
+  ofUsed,
+};
 ghost use Rattle.call.specs.Steps.{handleFound};
 
 // The values of an answer; those that it does not have are 0.
 pub type Values = [u64; 6];
 
-// What a call hands back: the number, whether it was refused, and the values. A fast read has no number: it is 0, and `refused` is its fault flag.
+// What a call hands back: the number, whether it was refused, and the values. A fast read has no
+// number: it is 0, and `refused` is its fault flag.
 pub struct Answer {
     pub number: i32,
     pub refused: bool,
@@ -141,7 +161,8 @@ fn values(space: u64, start: u32, length: u32, handle: u32, base: u32, contested
 
 // The values of a window.
 fn values_of(window: ListedWindow, handle: u32, base: u32, contested: bool) -> Values
-    ensures { λ r. ⌜ r ≡ listedSpace window ∷ listedStart window ∷ listedLength window ∷ handle ∷ base ∷ cond contested 1 0 ∷ [] ⌝ }
+    ensures { λ r. ⌜ r ≡ listedSpace window ∷ listedStart window ∷ listedLength window
+        ∷ handle ∷ base ∷ cond contested 1 0 ∷ [] ⌝ }
 {
     match window {
         ListedWindow::Memory { start, length } => values(

@@ -1,4 +1,5 @@
-// The calls on a board and their answers, of which every crate above speaks: scripts need no claim to be encoded.
+// The calls on a board and their answers, of which every crate above speaks: scripts need no claim
+// to be encoded.
 pub mod answer;
 mod call;
 pub mod searches;

@@ -1,4 +1,4 @@
-// The answers of the searches.
+// The answers of the searches, for dispatch and for the calls for C.
 use crate::answer::Answer;
 use crate::answer::of_search;
 use board::layout::Header;
@@ -12,13 +12,18 @@ ghost use Rattle.search.specs.Search.{devices, classes, searchNumber};
 ghost use Rattle.call.specs.Answers.{ofSearch};
 
 pub fn device_answer(header: &Header, registers: &Registers, id: u32, index: u32) -> Answer
-    ensures { λ r. ⌜ r ≡ ofSearch (searchNumber (devices id (functionCount (now (header .entry))) (registerByte (now (registers .entry)))) index) ⌝ }
+    ensures { λ r. ⌜ r ≡ ofSearch (searchNumber
+        (devices id (functionCount (now (header .entry))) (registerByte (now (registers .entry))))
+        index) ⌝ }
 {
     of_search(find_pci_device(header, registers, id, index))
 }
 
 pub fn class_answer(header: &Header, registers: &Registers, class: u32, index: u32) -> Answer
-    ensures { λ r. ⌜ r ≡ ofSearch (searchNumber (classes class (functionCount (now (header .entry))) (registerByte (now (registers .entry)))) index) ⌝ }
+    ensures { λ r. ⌜ r ≡ ofSearch (searchNumber
+        (classes class
+        (functionCount (now (header .entry))) (registerByte (now (registers .entry))))
+        index) ⌝ }
 {
     of_search(find_pci_classcode(header, registers, class, index))
 }

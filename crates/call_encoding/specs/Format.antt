@@ -1,4 +1,7 @@
--- The header of a call in a script: docs/SCRIPT.md.
+-- The header of a call in a script, and the answer that is written over it: docs/SCRIPT.md.
+-- A header is decoded by encoding: its fields leave one call that it can be (`candidate`), and it
+-- is that call's exactly if it is the call's encoding, byte for byte. So no rule for each call says
+-- which of its fields are 0, and no two headers say the same call with the same own length.
 use Prim.Native.Nat.{ℕ, _-_}
 use mathlib.Core.Bool.{Bool, true, false, cond, _&&_}
 use mathlib.Core.List.{List, [], _∷_, _++_}
@@ -14,15 +17,45 @@ use Rattle.board.specs.declared.space.Space.the-variants.{Memory, Io}
 use Rattle.call.specs.declared.answer.Answer.{Answer}
 use Rattle.call.specs.declared.call.Call.{Call}
 use Rattle.call.specs.declared.call.Access.the-variants.{Read, FastRead, Write}
-use Rattle.call.specs.declared.call.Call.the-variants.{Load, Reset, WriteImage, Config, Data, GetResource, HookInterrupt, UnhookInterrupt, SetCardUsed, Ask}
-use Rattle.call.specs.declared.call.Query.the-variants.{FindPciDevice, FindPciClasscode, BusToCpu, CpuToBus, ListWindow, ListChain, GetCardUsed, SpecialCycle, GetRouting, SetInterrupt}
+use Rattle.call.specs.declared.call.Call.the-variants.{
+  Load,
+  Reset,
+  WriteImage,
+  Config,
+  Data,
+  GetResource,
+  HookInterrupt,
+  UnhookInterrupt,
+  SetCardUsed,
+  Ask,
+}
+use Rattle.call.specs.declared.call.Query.the-variants.{
+  FindPciDevice,
+  FindPciClasscode,
+  BusToCpu,
+  CpuToBus,
+  ListWindow,
+  ListChain,
+  GetCardUsed,
+  SpecialCycle,
+  GetRouting,
+  SetInterrupt,
+}
 use Rattle.call_encoding.specs.declared.fields.Fields.{Fields}
 use Rattle.call_encoding.specs.declared.decode.Decoded.{Decoded}
 use Rattle.call_encoding.specs.declared.decode.Decoded.the-variants.{Known, Malformed}
 
 abbrev pub fields : ℕ → ℕ → ℕ → ℕ → ℕ → ℕ → ℕ → Fields
 fields operation width space register handle a b =
-    record { operation = operation; width = width; space = space; register = register; handle = handle; a = a; b = b }
+    record {
+      operation = operation;
+      width = width;
+      space = space;
+      register = register;
+      handle = handle;
+      a = a;
+      b = b;
+    }
 
 -- what each call says: operation, width, space, register or bus, handle, a, b
 abbrev pub fieldsOf : Call → Fields
@@ -33,10 +66,14 @@ fieldsOf (Ask (FindPciDevice id index)) = fields 4 0 0 0 0 id index
 fieldsOf (Ask (FindPciClasscode class index)) = fields 5 0 0 0 0 class index
 fieldsOf (Config width handle register Read) = fields 6 (bytes width) 0 register handle 0 0
 fieldsOf (Config width handle register FastRead) = fields 7 (bytes width) 0 register handle 0 0
-fieldsOf (Config width handle register (Write value)) = fields 8 (bytes width) 0 register handle value 0
-fieldsOf (Data space width handle address Read) = fields 9 (bytes width) (spaceNumber space) 0 handle (address .0) 0
-fieldsOf (Data space width handle address FastRead) = fields 10 (bytes width) (spaceNumber space) 0 handle (address .0) 0
-fieldsOf (Data space width handle address (Write value)) = fields 11 (bytes width) (spaceNumber space) 0 handle (address .0) value
+fieldsOf (Config width handle register (Write value)) =
+    fields 8 (bytes width) 0 register handle value 0
+fieldsOf (Data space width handle address Read) =
+    fields 9 (bytes width) (spaceNumber space) 0 handle (address .0) 0
+fieldsOf (Data space width handle address FastRead) =
+    fields 10 (bytes width) (spaceNumber space) 0 handle (address .0) 0
+fieldsOf (Data space width handle address (Write value)) =
+    fields 11 (bytes width) (spaceNumber space) 0 handle (address .0) value
 fieldsOf (Ask (BusToCpu handle address)) = fields 12 0 0 0 handle (address .0) 0
 fieldsOf (Ask (CpuToBus handle address)) = fields 13 0 0 0 handle (address .0) 0
 fieldsOf (Ask (ListWindow n)) = fields 14 0 0 0 0 n 0
@@ -50,7 +87,7 @@ fieldsOf (Ask (SpecialCycle onBus message)) = fields 21 0 0 onBus 0 message 0
 fieldsOf (Ask (GetRouting handle)) = fields 22 0 0 0 handle 0 0
 fieldsOf (Ask (SetInterrupt handle mode)) = fields 23 0 0 0 handle mode 0
 
--- a width and a space of a byte, whatever it is
+-- a width and a space of a byte, whatever it is: one that is none is not encoded back to itself
 abbrev pub widthOfByte : ℕ → Width
 widthOfByte n = cond (eqb n 2) Word (cond (eqb n 4) Long Byte)
 
@@ -100,7 +137,8 @@ callHeaderSize = 64
 unfoldable pub callHeader : Fields → ℕ → List ℕ
 callHeader f own =
     f .operation ∷ f .width ∷ f .space ∷ f .register
-    ∷ bigBytes 4 (f .handle) ++ (bigBytes 4 (f .a) ++ (bigBytes 4 (f .b) ++ (replicate 44 0 ++ bigBytes 4 own)))
+    ∷ bigBytes 4 (f .handle)
+    ++ (bigBytes 4 (f .a) ++ (bigBytes 4 (f .b) ++ (replicate 44 0 ++ bigBytes 4 own)))
 
 abbrev pub encoded : Call → ℕ → List ℕ
 encoded c own = callHeader (fieldsOf c) own
@@ -108,7 +146,8 @@ encoded c own = callHeader (fieldsOf c) own
 -- what stands at the positions of the fields and of that length
 abbrev pub headerFieldsAt : List ℕ → Fields
 headerFieldsAt l =
-    fields (byteAt l 0) (byteAt l 1) (byteAt l 2) (byteAt l 3) (big 4 (byteAt l) 4) (big 4 (byteAt l) 8) (big 4 (byteAt l) 12)
+    fields (byteAt l 0) (byteAt l 1) (byteAt l 2) (byteAt l 3)
+    (big 4 (byteAt l) 4) (big 4 (byteAt l) 8) (big 4 (byteAt l) 12)
 
 abbrev pub ownLength : List ℕ → ℕ
 ownLength l = big 4 (byteAt l) 60
@@ -129,9 +168,12 @@ decoded l =
 abbrev pub valueBytes : Answer → ℕ → List ℕ
 valueBytes a i = bigBytes 8 (getD (a .values) i 0)
 
--- an answer: its number, the refused flag, zeros, the six values, zeros, and the length of the own buffer as it was
+-- an answer: its number, the refused flag, zeros, the six values, zeros, and the length of the own
+-- buffer as it was
 unfoldable pub answerBytes : Answer → ℕ → List ℕ
 answerBytes a own =
-    bigBytes 4 (bits (a .number)) ++ (cond (a .refused) 1 0 ∷ replicate 3 0
-    ++ (valueBytes a 0 ++ (valueBytes a 1 ++ (valueBytes a 2 ++ (valueBytes a 3 ++ (valueBytes a 4 ++ (valueBytes a 5
+    bigBytes 4 (bits (a .number))
+    ++ (cond (a .refused) 1 0 ∷ replicate 3 0
+    ++ (valueBytes a 0 ++ (valueBytes a 1 ++ (valueBytes a 2
+    ++ (valueBytes a 3 ++ (valueBytes a 4 ++ (valueBytes a 5
     ++ (replicate 4 0 ++ bigBytes 4 own))))))))

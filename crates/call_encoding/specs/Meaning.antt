@@ -1,4 +1,4 @@
--- What the format means, without the proofs.
+-- What the format means, without the proofs: docs/SCRIPT.md, "What is proved".
 use Prim.Native.Nat.{ℕ, _<_, _^_}
 use mathlib.Core.List.{List}
 use mathlib.Core.Path.{_≡_}
@@ -20,10 +20,12 @@ pub record Fits (f : Fields) : Type 0 where
 abbrev pub TypesHold : Call → Type 0
 TypesHold c = Fits (fieldsOf c)
 
--- ENCODE THEN DECODE is the identity, for every call that the types can hold and every length of its own buffer
+-- ENCODE THEN DECODE is the identity, for every call that the types can hold and every length of
+-- its own buffer
 abbrev pub EncodeDecode : Type 0
 EncodeDecode = (c : Call) (own : ℕ) → TypesHold c → U32 own → decoded (encoded c own) ≡ Known c own
 
--- DECODE THEN ENCODE is the identity: bytes that are read as a call are that call's header, so no two headers say the same
+-- DECODE THEN ENCODE is the identity: bytes that are read as a call are that call's header, so no
+-- two headers say the same
 abbrev pub DecodeEncode : Type 0
 DecodeEncode = (l : List ℕ) (c : Call) (own : ℕ) → decoded l ≡ Known c own → l ≡ encoded c own

@@ -1,4 +1,5 @@
-// The call that a header says.
+// The call that a header says. The header is not tested field by field: the only call that its
+// fields can mean is encoded once more, and the bytes are compared.
 use crate::encode::OWN_LENGTH;
 use crate::encode::call_header;
 use crate::fields::Fields;

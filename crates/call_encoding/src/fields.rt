@@ -1,4 +1,5 @@
-// The fields of a call's header: a row for each call, in the order of the operations' numbers.
+// The fields of a call's header, and back: a row for each call, in the order of the operations'
+// numbers.
 use board::address::BusAddress;
 use board::address::CpuAddress;
 use board::space::Space;
@@ -10,7 +11,13 @@ use numbers::number::bytes;
 ghost use mathlib.Core.Path.{_≡_};
 ghost use Rattle.board.specs.Spaces.{spaceNumber};
 ghost use Rattle.call.specs.declared.call.Call.the-variants.{Ask};
-ghost use Rattle.call_encoding.specs.Format.{fields, fieldsOf, candidate, widthOfByte, spaceOfByte};
+ghost use Rattle.call_encoding.specs.Format.{
+  fields,
+  fieldsOf,
+  candidate,
+  widthOfByte,
+  spaceOfByte,
+};
 
 // The fields of a header; what a call does not have is 0.
 pub struct Fields {
@@ -56,7 +63,7 @@ fn query_fields(query: Query) -> Fields
         Query::FindPciClasscode { class, index } => row(5, 0, 0, 0, 0, class, index),
         Query::BusToCpu { handle, address } => row(12, 0, 0, 0, handle, address.0, 0),
         Query::CpuToBus { handle, address } => row(13, 0, 0, 0, handle, address.0, 0),
-        Query::ListWindow { n } => row(14, 0, 0, 0, 0, n, 0),
+        Query::ListWindow { index } => row(14, 0, 0, 0, 0, index, 0),
         Query::ListChain { line, index } => row(18, 0, 0, 0, 0, line, index),
         Query::GetCardUsed { handle } => row(19, 0, 0, 0, handle, 0, 0),
         Query::SpecialCycle { bus, message } => row(21, 0, 0, bus, 0, message, 0),
@@ -204,7 +211,7 @@ pub fn call_of(f: Fields) -> Call
             handle: handle,
             address: CpuAddress(a),
         }),
-        14 => Call::Ask(Query::ListWindow { n: a }),
+        14 => Call::Ask(Query::ListWindow { index: a }),
         15 => Call::GetResource { handle: handle },
         16 => Call::HookInterrupt {
             handle: handle,

@@ -1,4 +1,4 @@
--- What the used marks mean, without the proofs.
+-- What the used marks mean, without the proofs: document 01, "Runs and the book", set used.
 use Prim.Native.Nat.{ℕ, _+_, _*_, _<_}
 use mathlib.Core.Bool.{cond}
 use mathlib.Core.List.{List}

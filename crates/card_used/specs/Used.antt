@@ -11,6 +11,8 @@ use Rattle.numbers.specs.Tables.{table}
 use Rattle.board.specs.declared.status.Status.{Status}
 use Rattle.card_used.specs.declared.used.CardUsed.{CardUsed}
 
+-- the status, 0 free, 1 in use, 2 in use with a call-back or 3 may be taken over, and the call-back
+-- address
 pub record Mark : Type 0 where
   pub status : ℕ
   pub callBack : ℕ
@@ -42,14 +44,16 @@ newMark status callBack = mark status (callBackKept status callBack)
 -- get used: -9; zeros where refused
 abbrev pub usedOf : Bool → Mark → CardUsed
 usedOf good m =
-    cond good (record { status = successful; used = m .status; «call_back» = m .callBack }) (record { status = badHandle; used = 0; «call_back» = 0 })
+    cond good (record { status = successful; used = m .status; «call_back» = m .callBack })
+    (record { status = badHandle; used = 0; «call_back» = 0 })
 
 abbrev pub getCardUsed : List ℕ → List ℕ → ℕ → CardUsed
 getCardUsed header used handle = usedOf (isHandle header handle) (markAt used (handle - 1))
 
 -- set used: -9; -8 status above 3
 abbrev pub setChecks : {A : Type 0} → Bool → ℕ → A → (Status → A) → A
-setChecks good status accepted refused = cond good (cond (leb status 3) accepted (refused generalError)) (refused badHandle)
+setChecks good status accepted refused =
+    cond good (cond (leb status 3) accepted (refused generalError)) (refused badHandle)
 
 -- a status, and the array that is left
 pub record MarkOutcome : Type 0 where
@@ -61,4 +65,6 @@ markOutcome status used = record { status = status; used = used }
 
 abbrev pub setCardUsed : List ℕ → List ℕ → ℕ → ℕ → ℕ → MarkOutcome
 setCardUsed header used handle status callBack =
-    setChecks (isHandle header handle) status (markOutcome successful (markPut used (handle - 1) (newMark status callBack))) (λ s. markOutcome s used)
+    setChecks (isHandle header handle) status
+    (markOutcome successful (markPut used (handle - 1) (newMark status callBack)))
+    (λ s. markOutcome s used)

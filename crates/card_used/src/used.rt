@@ -1,4 +1,4 @@
-// Card-used marks.
+// Card-used marks: of each function two numbers, the status and the call-back address.
 use board::handle::is_handle;
 use board::handle::place;
 use board::layout::Header;
@@ -10,7 +10,14 @@ ghost use mathlib.Core.Path.{_≡_};
 ghost use Prim.Native.Nat.{_+_, _*_, _<_};
 ghost use lib.ListN.{length};
 ghost use Rattle.board.specs.Layout.{markSize};
-ghost use Rattle.card_used.specs.Used.{mark, callBackKept, markPut, getCardUsed, markOutcome, setCardUsed};
+ghost use Rattle.card_used.specs.Used.{
+  mark,
+  callBackKept,
+  markPut,
+  getCardUsed,
+  markOutcome,
+  setCardUsed,
+};
 
 // What a mark says; zeros where the call is refused.
 pub struct CardUsed {
@@ -19,7 +26,7 @@ pub struct CardUsed {
     pub call_back: u32,
 }
 
-// The highest status, and the one that has a call-back.
+// The highest status, may be taken over; and the one that has a call-back.
 const TAKE_OVER: u32 = 3;
 
 const WITH_CALL_BACK: u32 = 2;
@@ -57,7 +64,8 @@ fn call_back_kept(status: u32, call_back: u32) -> u32
 // Stores the two numbers of the mark of the function at a place, from 0.
 fn put(used: &mut [u32], function: usize, status: u32, call_back: u32)
     requires { ⌜ markSize * function + 1 < length (now used) ⌝ }
-    ensures { λ _. ⌜ now (used .exit) ≡ markPut (now (used .entry)) function (mark status «call_back») ⌝ }
+    ensures { λ _. ⌜ now (used .exit)
+        ≡ markPut (now (used .entry)) function (mark status «call_back») ⌝ }
 {
     let at = MARK * function;
     used[at] = status;
@@ -72,7 +80,8 @@ pub fn set_card_used(
     status: u32,
     call_back: u32,
 ) -> Status
-    ensures { λ r. ⌜ markOutcome r (now (used .exit)) ≡ setCardUsed (now (header .entry)) (now (used .entry)) handle status «call_back» ⌝ }
+    ensures { λ r. ⌜ markOutcome r (now (used .exit))
+        ≡ setCardUsed (now (header .entry)) (now (used .entry)) handle status «call_back» ⌝ }
 {
     if !is_handle(header, handle) {
         return Status::BAD_HANDLE;

@@ -1,4 +1,4 @@
--- A turn of the loop that places the offsets of cells.
+-- A turn of the loop that stores the offsets of cells.
 use Prim.Native.Nat.{ℕ, _+_, _*_, _<_, _≤_}
 use native.Mathlib.Omega.{arith}
 use native.Mathlib.Numerals.{add-one}

@@ -1,4 +1,5 @@
--- The cells of the windows: document 01, "The modelled board". k i b is the length exponent of base register b of the function at place i.
+-- The cells of the windows: document 01, "The modelled board". k i b is the length exponent of base
+-- register b of the function at place i.
 use Prim.Native.Nat.{ℕ, zero, suc, _+_, _/_, _%_}
 use mathlib.Core.List.{List, _++_}
 use lib.ListN.{drop, replicate}
@@ -6,7 +7,8 @@ use Rattle.numbers.specs.Tables.{table}
 use Rattle.board.specs.Layout.{bases, windowsMax}
 use Rattle.window.specs.Window.{windowLength}
 
--- the cells of slot s, which is base register s % 6 of function s / 6: function order, then base register order
+-- the cells of slot s, which is base register s % 6 of the function at place s / 6: function order,
+-- then base register order
 abbrev pub slotCells : (ℕ → ℕ → ℕ) → ℕ → ℕ
 slotCells k s = windowLength (k (s / bases) (s % bases))
 

@@ -1,4 +1,5 @@
-// The cells of the windows: how many each has, and where they begin.
+// The cells of the windows: how many each has, and where they begin. Both loops go over all 96
+// slots: past the end of the records the reader gives 0, an exponent that has no cells.
 use board::layout::BASES;
 use board::layout::CellOffsets;
 use board::layout::ENTRIES;
@@ -14,7 +15,7 @@ ghost use lib.ListN.{length};
 ghost use Rattle.board.specs.Layout.{windowsMax, exponent};
 ghost use Rattle.cell_layout.specs.Cells.{slotCells, total, offsetsOf};
 
-// The cells of slot s: base register s % 6 of function s / 6.
+// The cells of slot s: base register s % 6 of the function at place s / 6.
 fn slot_cells(records: &[u8], s: usize) -> u32
     requires { ⌜ s < windowsMax ⌝ }
     ensures { λ r. ⌜ r ≡ slotCells (exponent (now (records .entry))) s ⌝ }
@@ -30,6 +31,7 @@ pub fn total_of(records: &[u8]) -> u32
 {
     let mut n = 0;
     let mut slot = 0;
+    // Invariant: n is the number of cells of the slots before this one, at most 65,536 for each.
     while slot < WINDOWS {
         n += slot_cells(records, slot);
         slot += 1;
@@ -44,6 +46,7 @@ fn lay_out(records: &[u8], offsets: &mut [u32])
 {
     let mut t = 0;
     let mut s = 0;
+    // Invariant: the offsets of the first s slots stand, and t is where the next one begins.
     while s < WINDOWS {
         offsets[s] = t;
         t += slot_cells(records, s);
@@ -52,7 +55,7 @@ fn lay_out(records: &[u8], offsets: &mut [u32])
     offsets[WINDOWS] = t;
 }
 
-// Where the cells of each base register begin, and the total.
+// The same of the kept records, into the lent offsets.
 pub fn lay_out_cells(records: &Records, offsets: &mut CellOffsets)
     ensures { λ _. ⌜ now (offsets .exit) ≡ offsetsOf (exponent (now (records .entry))) ⌝ }
 {

@@ -11,7 +11,7 @@ use Rattle.config_read.specs.declared.target.Target.{Target}
 use Rattle.config_read.specs.declared.target.Target.the-variants.{Function, Refused}
 use Rattle.config_read.specs.Target.{target}
 
--- w bytes of registers by function and number, little-endian; a refused read returns 0
+-- w bytes of registers r by place and number, little-endian; a refused read returns 0
 abbrev pub readOf : (ℕ → ℕ → ℕ) → ℕ → ℕ → Target → Read
 readOf r w register (Function i) = acceptedRead (little w (r i) register)
 readOf r w register (Refused s) = refusedRead s
@@ -23,8 +23,10 @@ fastReadOf r w register (Refused s) = refusedFast w
 
 abbrev pub readConfig : ℕ → List ℕ → List ℕ → ℕ → ℕ → Read
 readConfig w header registers handle register =
-    readOf (registerByte registers) w register (target (isHandle header handle) w handle register)
+    readOf (registerByte registers) w register
+    (target (isHandle header handle) w handle register)
 
 abbrev pub fastReadConfig : ℕ → List ℕ → List ℕ → ℕ → ℕ → FastRead
 fastReadConfig w header registers handle register =
-    fastReadOf (registerByte registers) w register (target (isHandle header handle) w handle register)
+    fastReadOf (registerByte registers) w register
+    (target (isHandle header handle) w handle register)

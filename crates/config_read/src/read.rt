@@ -21,7 +21,9 @@ pub fn read_config(
     handle: u32,
     register: u8,
 ) -> Read
-    ensures { λ r. ⌜ r ≡ readConfig (bytes width) (now (header .entry)) (now (registers .entry)) handle register ⌝ }
+    ensures { λ r. ⌜ r
+        ≡ readConfig (bytes width) (now (header .entry)) (now (registers .entry))
+        handle register ⌝ }
 {
     match target_of(header, width, handle, register) {
         Target::Function(function) => Read {
@@ -35,7 +37,7 @@ pub fn read_config(
     }
 }
 
-// The same, with a fault flag in place of the status.
+// The same, with a fault flag for the status.
 pub fn fast_read_config(
     header: &Header,
     registers: &Registers,
@@ -43,7 +45,9 @@ pub fn fast_read_config(
     handle: u32,
     register: u8,
 ) -> FastRead
-    ensures { λ r. ⌜ r ≡ fastReadConfig (bytes width) (now (header .entry)) (now (registers .entry)) handle register ⌝ }
+    ensures { λ r. ⌜ r
+        ≡ fastReadConfig (bytes width) (now (header .entry)) (now (registers .entry))
+        handle register ⌝ }
 {
     match target_of(header, width, handle, register) {
         Target::Function(function) => FastRead {

@@ -1,4 +1,4 @@
-// The checks of a configuration call: which function it is for.
+// The checks of a configuration call, once for reads and writes: which function it is for.
 use board::handle::is_handle;
 use board::handle::place;
 use board::layout::Header;
@@ -10,13 +10,16 @@ ghost use Rattle.board.specs.Handles.{isHandle};
 ghost use Rattle.numbers.specs.Numbers.{bytes};
 ghost use Rattle.config_read.specs.Target.{fits, target};
 
-// The function at a place, from 0, or the refusal.
+// What the checks give.
 pub enum Target {
+    // Accepted: the place of the function, from 0.
     Function(u32),
+    // -9, BAD_HANDLE, or then -5, BAD_REGISTER_NUMBER.
     Refused(Status),
 }
 
-// Whether an access of a width may stand at a register; as the number is a byte, none that is aligned passes the last register.
+// Whether an access of a width may stand at a register; as the number is a byte, none that is
+// aligned passes the last register.
 fn fits(register: u8, width: Width) -> bool
     ensures { λ r. ⌜ r ≡ fits (bytes width) register ⌝ }
 {
@@ -25,7 +28,8 @@ fn fits(register: u8, width: Width) -> bool
 
 // The function that an access through a handle is for.
 pub fn target_of(header: &Header, width: Width, handle: u32, register: u8) -> Target
-    ensures { λ r. ⌜ r ≡ target (isHandle (now (header .entry)) handle) (bytes width) handle register ⌝ }
+    ensures { λ r. ⌜ r
+        ≡ target (isHandle (now (header .entry)) handle) (bytes width) handle register ⌝ }
 {
     let good = is_handle(header, handle);
     let fitting = fits(register, width);

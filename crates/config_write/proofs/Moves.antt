@@ -1,4 +1,5 @@
--- The kept list follows the registers: it is worked out anew exactly where a byte that it depends on is addressed.
+-- The kept list follows the registers: it is worked out anew exactly where a byte that it depends
+-- on is addressed.
 use Prim.Native.Nat.{ℕ, _+_, _-_, _<_, _≤_}
 use native.Mathlib.Omega.{arith}
 use mathlib.Core.Bool.{Bool, true, false, _&&_, _||_, cond, or-true, false≢true}

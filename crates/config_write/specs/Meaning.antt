@@ -1,4 +1,5 @@
--- What configuration writes mean, without the proofs.
+-- What configuration writes mean (document 01, "Registers" and "Windows"): statements alone, proved
+-- in proofs/Masks.antt, proofs/Written.antt and proofs/Moves.antt.
 use Prim.Native.Nat.{ℕ, _+_, _-_, _*_, _/_, _%_, _^_, _<_, _≤_}
 use mathlib.Core.Bool.{true, cond, _&&_}
 use mathlib.Core.List.{List}
@@ -23,13 +24,16 @@ MaskedBits =
     (register mask old new b : ℕ) → mask < 256 → b < 8
     → bit b (written register mask old new) ≡ cond (bit b mask) (bit b new) (bit b old)
 
--- register `at` of the function at place j after w bytes are written: each addressed byte follows its own mask, and nothing else changes
-pub record WrittenThrough (w : ℕ) (records : List ℕ) (i register value : ℕ) (registers : List ℕ) : Type 0 where
+-- register `at` of the function at place j after w bytes are written: each addressed byte follows
+-- its own mask, and nothing else changes
+pub record WrittenThrough (w : ℕ) (records : List ℕ) (i register value : ℕ)
+    (registers : List ℕ) : Type 0 where
   pub room : length (bytesWritten w records i register value registers) ≡ length registers
   pub byte : (j at : ℕ) → at < registersEach
       → registerByte (bytesWritten w records i register value registers) j at
       ≡ cond (eqb j i && (leb register at && ltb at (register + w)))
-      (written at (maskByte records i at) (registerByte registers i at) (value / 256 ^ (at - register) % 256))
+      (written at
+      (maskByte records i at) (registerByte registers i at) (value / 256 ^ (at - register) % 256))
       (registerByte registers j at)
 
 abbrev pub MaskedWrite : Type 0
@@ -50,7 +54,9 @@ ReadOnly =
 
 -- the list is worked out anew exactly where a byte of 04h or 10h-27h is addressed
 abbrev pub MovesWindows : Type 0
-MovesWindows = (w register : ℕ) → 0 < w → (movesWindows w register ≡ true) ↔ ((d : ℕ) × (d < w) × Watched (register + d))
+MovesWindows =
+    (w register : ℕ) → 0 < w
+    → (movesWindows w register ≡ true) ↔ ((d : ℕ) × (d < w) × Watched (register + d))
 
 -- a kept list that is the list of its board stays so
 abbrev pub ListFollows : Type 0
@@ -58,4 +64,5 @@ ListFollows =
     (w : ℕ) (header records registers windows : List ℕ) (handle register value : ℕ)
     → windows ≡ keptList (windowList header records registers)
     → writeConfig w header records registers windows handle register value .windows
-    ≡ keptList (windowList header records (writeConfig w header records registers windows handle register value .registers))
+    ≡ keptList (windowList header records
+    (writeConfig w header records registers windows handle register value .registers))

@@ -1,4 +1,5 @@
-// Writing configuration registers through their masks.
+// Writing configuration registers through their masks. The window list depends on the command byte
+// and the base registers alone, and is worked out anew only after a write there.
 use board::layout::BASE_0;
 use board::layout::COMMAND;
 use board::layout::Header;
@@ -19,12 +20,20 @@ ghost use mathlib.Core.Path.{_≡_};
 ghost use Prim.Native.Nat.{_+_, _≤_};
 ghost use Rattle.board.specs.Layout.{registersEach};
 ghost use Rattle.numbers.specs.Numbers.{bytes};
-ghost use Rattle.config_write.specs.Write.{written, byteWritten, bytesWritten, movesWindows, configWritten, writeConfig};
+ghost use Rattle.config_write.specs.Write.{
+  written,
+  byteWritten,
+  bytesWritten,
+  movesWindows,
+  configWritten,
+  writeConfig,
+};
 
 // The register after the base registers.
 const BASES_END: u8 = 0x28;
 
-// A byte after a write at a register.
+// A byte after a write at a register: the written bits where the mask has 1, the rest kept. Which
+// register it is plays no part; later requests tell some apart.
 fn written(register: u8, mask: u8, old: u8, new: u8) -> u8
     ensures { λ r. ⌜ r ≡ written register mask old new ⌝ }
 {
@@ -33,7 +42,8 @@ fn written(register: u8, mask: u8, old: u8, new: u8) -> u8
 
 // Writes one byte through its mask.
 fn write_byte(records: &Records, registers: &mut Registers, function: u32, register: u8, new: u8)
-    ensures { λ _. ⌜ now (registers .exit) ≡ byteWritten (now (records .entry)) function register new (now (registers .entry)) ⌝ }
+    ensures { λ _. ⌜ now (registers .exit)
+        ≡ byteWritten (now (records .entry)) function register new (now (registers .entry)) ⌝ }
 {
     let mask = mask_byte(records, function, register);
     let old = register_byte(registers, function, register);
@@ -51,11 +61,14 @@ fn write_bytes(
     value: u32,
 )
     requires { ⌜ register + bytes width ≤ registersEach ⌝ }
-    ensures { λ _. ⌜ now (registers .exit) ≡ bytesWritten (bytes width) (now (records .entry)) function register value (now (registers .entry)) ⌝ }
+    ensures { λ _. ⌜ now (registers .exit)
+        ≡ bytesWritten (bytes width) (now (records .entry)) function register value
+        (now (registers .entry)) ⌝ }
 {
     let w = bytes(width);
     let mut rest = value;
     let mut i = 0;
+    // Invariant: writing w - i bytes of rest from register + i on gives what the call gives.
     while i < w {
         write_byte(
             records,
@@ -69,7 +82,8 @@ fn write_bytes(
     }
 }
 
-// Whether the registers of a width from a register on hold a byte that the window list depends on: the command byte or a base register's.
+// Whether the registers of a width from a register on hold a byte that the window list depends on:
+// the command byte or a base register's.
 fn moves_windows(register: u8, width: Width) -> bool
     ensures { λ r. ⌜ r ≡ movesWindows (bytes width) register ⌝ }
 {
@@ -78,7 +92,8 @@ fn moves_windows(register: u8, width: Width) -> bool
         | ((register < BASES_END) & ((BASE_0 as u32) < end))
 }
 
-// Writes a number of a width, its low bytes least first, and then works out the window list anew where it depends on a byte written.
+// Writes a number of a width, its low bytes least first, and then works out the window list anew
+// where it depends on a byte written.
 pub fn write_config(
     header: &Header,
     records: &Records,
@@ -89,7 +104,9 @@ pub fn write_config(
     register: u8,
     value: u32,
 ) -> Status
-    ensures { λ r. ⌜ configWritten r (now (registers .exit)) (now (windows .exit)) ≡ writeConfig (bytes width) (now (header .entry)) (now (records .entry)) (now (registers .entry)) (now (windows .entry)) handle register value ⌝ }
+    ensures { λ r. ⌜ configWritten r (now (registers .exit)) (now (windows .exit))
+        ≡ writeConfig (bytes width) (now (header .entry)) (now (records .entry))
+        (now (registers .entry)) (now (windows .entry)) handle register value ⌝ }
 {
     match target_of(header, width, handle, register) {
         Target::Function(function) => {

@@ -1,4 +1,5 @@
--- Numbers of a + b bytes from those of a and of b bytes: what two reads make, in both orders, and what two stores come to.
+-- Numbers of a + b bytes from those of a and of b bytes: what two reads make, in both orders, and
+-- what two stores come to.
 use Prim.Native.Nat.{ℕ, zero, suc, _+_, _-_, _*_, _/_, _%_, _^_}
 use native.Mathlib.Nat.{add-zero, zero-add, mul-zero, mul-add, mul-assoc, mul-comm, div-div-eq-div-mul, pow-suc}
 use native.Mathlib.Omega.{arith}

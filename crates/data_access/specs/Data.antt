@@ -44,8 +44,10 @@ readData w header records windows offsets cells space handle address =
 
 abbrev pub fastReadData : ℕ → List ℕ → List ℕ → List ℕ → List ℕ → List ℕ → ℕ → ℕ → ℕ → FastRead
 fastReadData w header records windows offsets cells space handle address =
-    fastReadAt w cells (cellTarget w header records windows offsets (length cells) space handle address)
+    fastReadAt w cells
+    (cellTarget w header records windows offsets (length cells) space handle address)
 
 abbrev pub writeData : ℕ → List ℕ → List ℕ → List ℕ → List ℕ → List ℕ → ℕ → ℕ → ℕ → ℕ → DataWritten
 writeData w header records windows offsets cells space handle address value =
-    writeAt w value cells (cellTarget w header records windows offsets (length cells) space handle address)
+    writeAt w value cells
+    (cellTarget w header records windows offsets (length cells) space handle address)

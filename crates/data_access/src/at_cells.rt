@@ -1,4 +1,5 @@
-// What is read and written at the cells of an access.
+// What is read and written at the cells of an access. Where there are cells they are all in the
+// buffer (`Inside`), so that nothing is tested here.
 use crate::stored::put_number;
 use crate::stored::value_at;
 use board::read::FastRead;
@@ -45,7 +46,8 @@ pub(crate) fn fast_read_at(cells: &[u8], width: Width, target: CellTarget) -> Fa
 
 pub(crate) fn write_at(cells: &mut [u8], width: Width, value: u32, target: CellTarget) -> Status
     requires { ⌜ Inside (bytes width) (length (now cells)) target ⌝ }
-    ensures { λ r. ⌜ dataWritten r (now (cells .exit)) ≡ writeAt (bytes width) value (now (cells .entry)) target ⌝ }
+    ensures { λ r. ⌜ dataWritten r (now (cells .exit))
+        ≡ writeAt (bytes width) value (now (cells .entry)) target ⌝ }
 {
     match target {
         CellTarget::At { at, order } => {

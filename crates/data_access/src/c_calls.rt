@@ -1,5 +1,8 @@
-// Data calls as C asks for them, with numbers for widths and spaces. They are put together from the parts that `data_place` and the calls of `data` are made of:
-// the compiler then moves all of them into their one caller, the function for C, which saves a call and its many arguments.
+// Data calls as C asks for them, with numbers for widths and spaces. They do not call those of
+// `data` but are put together from the same parts: the window (`find_window`), its cells
+// (`cell_target_of`) and the access there. The compiler then moves all of them into the function
+// for C; a call of `read_data` or `cell_target` would stay one, with its many arguments. Once the
+// width is known the definitions are those of `data`.
 use crate::at_cells::fast_read_at;
 use crate::at_cells::read_at;
 use crate::at_cells::write_at;
@@ -35,7 +38,9 @@ pub fn c_read_data(
     handle: u32,
     address: u32,
 ) -> Read
-    ensures { λ r. ⌜ r ≡ cReadData (widthFromC width) (now (header .entry)) (now (records .entry)) (now (windows .entry)) (now (offsets .entry)) (now (cells .entry)) (spaceNumber (spaceFromC io)) handle address ⌝ }
+    ensures { λ r. ⌜ r ≡ cReadData (widthFromC width)
+        (now (header .entry)) (now (records .entry)) (now (windows .entry)) (now (offsets .entry))
+        (now (cells .entry)) (spaceNumber (spaceFromC io)) handle address ⌝ }
 {
     match width_from_c(width) {
         CWidth::Known(width) => {
@@ -73,7 +78,9 @@ pub fn c_fast_read_data(
     handle: u32,
     address: u32,
 ) -> FastRead
-    ensures { λ r. ⌜ r ≡ cFastReadData (widthFromC width) (now (header .entry)) (now (records .entry)) (now (windows .entry)) (now (offsets .entry)) (now (cells .entry)) (spaceNumber (spaceFromC io)) handle address ⌝ }
+    ensures { λ r. ⌜ r ≡ cFastReadData (widthFromC width)
+        (now (header .entry)) (now (records .entry)) (now (windows .entry)) (now (offsets .entry))
+        (now (cells .entry)) (spaceNumber (spaceFromC io)) handle address ⌝ }
 {
     match width_from_c(width) {
         CWidth::Known(width) => {
@@ -112,7 +119,10 @@ pub fn c_write_data(
     address: u32,
     value: u32,
 ) -> Status
-    ensures { λ r. ⌜ dataWritten r (now (cells .exit)) ≡ cWriteData (widthFromC width) (now (header .entry)) (now (records .entry)) (now (windows .entry)) (now (offsets .entry)) (now (cells .entry)) (spaceNumber (spaceFromC io)) handle address value ⌝ }
+    ensures { λ r. ⌜ dataWritten r (now (cells .exit))
+        ≡ cWriteData (widthFromC width)
+        (now (header .entry)) (now (records .entry)) (now (windows .entry)) (now (offsets .entry))
+        (now (cells .entry)) (spaceNumber (spaceFromC io)) handle address value ⌝ }
 {
     match width_from_c(width) {
         CWidth::Known(width) => {

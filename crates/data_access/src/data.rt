@@ -1,4 +1,5 @@
-// Reading and writing cells.
+// Data calls: the cells of an access are worked out, or the check that fails, and then read or
+// written.
 use crate::at_cells::fast_read_at;
 use crate::at_cells::read_at;
 use crate::at_cells::write_at;
@@ -30,7 +31,9 @@ pub fn read_data(
     handle: u32,
     address: BusAddress,
 ) -> Read
-    ensures { λ r. ⌜ r ≡ readData (bytes width) (now (header .entry)) (now (records .entry)) (now (windows .entry)) (now (offsets .entry)) (now (cells .entry)) (spaceNumber space) handle (address .0) ⌝ }
+    ensures { λ r. ⌜ r ≡ readData (bytes width)
+        (now (header .entry)) (now (records .entry)) (now (windows .entry)) (now (offsets .entry))
+        (now (cells .entry)) (spaceNumber space) handle (address .0) ⌝ }
 {
     let target = cell_target(
         header,
@@ -58,7 +61,9 @@ pub fn fast_read_data(
     handle: u32,
     address: BusAddress,
 ) -> FastRead
-    ensures { λ r. ⌜ r ≡ fastReadData (bytes width) (now (header .entry)) (now (records .entry)) (now (windows .entry)) (now (offsets .entry)) (now (cells .entry)) (spaceNumber space) handle (address .0) ⌝ }
+    ensures { λ r. ⌜ r ≡ fastReadData (bytes width)
+        (now (header .entry)) (now (records .entry)) (now (windows .entry)) (now (offsets .entry))
+        (now (cells .entry)) (spaceNumber space) handle (address .0) ⌝ }
 {
     let target = cell_target(
         header,
@@ -87,7 +92,10 @@ pub fn write_data(
     address: BusAddress,
     value: u32,
 ) -> Status
-    ensures { λ r. ⌜ dataWritten r (now (cells .exit)) ≡ writeData (bytes width) (now (header .entry)) (now (records .entry)) (now (windows .entry)) (now (offsets .entry)) (now (cells .entry)) (spaceNumber space) handle (address .0) value ⌝ }
+    ensures { λ r. ⌜ dataWritten r (now (cells .exit))
+        ≡ writeData (bytes width)
+        (now (header .entry)) (now (records .entry)) (now (windows .entry)) (now (offsets .entry))
+        (now (cells .entry)) (spaceNumber space) handle (address .0) value ⌝ }
 {
     let target = cell_target(
         header,

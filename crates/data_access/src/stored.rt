@@ -1,4 +1,5 @@
-// Numbers in cells, highest byte first but for those called little. All their cells are there, so that none is tested for when they are read or written.
+// Numbers in cells, highest byte first but for those called little. All their cells are there, so
+// that none is tested for when they are read or written.
 use data_order::order::REVERSED_BYTES;
 use numbers::number::Width;
 use numbers::number::wide;
@@ -44,7 +45,8 @@ fn little_long_at(cells: &[u8], at: usize) -> u32
     little_word_at(cells, at) + 65536 * little_word_at(cells, at + 2)
 }
 
-// The value in the cells at a position. Where it is to be reversed it is read least byte first at once: a processor then needs one load either way.
+// The value in the cells at a position. Where it is to be reversed it is read least byte first at
+// once: a processor then needs one load either way.
 pub(crate) fn value_at(cells: &[u8], at: usize, order: u8, width: Width) -> u32
     requires { ⌜ at + bytes width ≤ length (now cells) ⌝ }
     ensures { λ r. ⌜ r ≡ cellsValue order (bytes width) at (now (cells .entry)) ⌝ }
@@ -92,7 +94,8 @@ fn put_long(cells: &mut [u8], at: usize, value: u32)
 // Stores a number at a position.
 pub(crate) fn put_number(cells: &mut [u8], at: usize, width: Width, value: u32)
     requires { ⌜ at + bytes width ≤ length (now cells) ⌝ }
-    ensures { λ _. ⌜ now (cells .exit) ≡ sets (now (cells .entry)) at (bigBytes (bytes width) value) ⌝ }
+    ensures { λ _. ⌜ now (cells .exit)
+        ≡ sets (now (cells .entry)) at (bigBytes (bytes width) value) ⌝ }
 {
     match width {
         Width::Byte => put_one(cells, at, value),

@@ -6,7 +6,7 @@ use lib.Dec.{ltb}
 use borrow.Author.Tests.{ltb-false}
 use Rattle.data_window.specs.declared.find.Finding.{Finding}
 use Rattle.data_window.specs.declared.find.Finding.the-variants.{Found, Refused as NoWindow}
-use Rattle.data_window.specs.declared.refusal.Refusal.the-variants.{PastBuffer}
+use Rattle.data_window.specs.declared.refusal.DataRefusal.the-variants.{PastBuffer}
 use Rattle.data_cells.specs.declared.target.CellTarget.the-variants.{At, Refused}
 use Rattle.data_order.specs.Orders.{cellDistance}
 use Rattle.data_cells.specs.Cells.{cellTargetOf}

@@ -1,4 +1,4 @@
--- What is found is found for a handle, so that its function stands one target before.
+-- What is found is found for a handle, whose function stands at the place one below it.
 use Prim.Native.Nat.{ℕ, _-_, _<_}
 use mathlib.Core.List.{List}
 use mathlib.Core.Path.{_≡_, refl, sym, _∙_}

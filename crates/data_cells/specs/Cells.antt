@@ -1,4 +1,5 @@
--- Where the cells of an access stand, and what is read and written there.
+-- Where the cells of an access stand, and what is read and written there: document 01, "The
+-- modelled board" and "Data and byte order".
 use Prim.Native.Nat.{ℕ, _+_, _-_, _*_}
 use mathlib.Core.Bool.{cond}
 use mathlib.Core.List.{List}
@@ -9,30 +10,36 @@ use Rattle.board.specs.Layout.{bases, byteOrder}
 use Rattle.numbers.specs.Numbers.{byteAt, big, bigBytes}
 use Rattle.data_window.specs.declared.find.Finding.{Finding}
 use Rattle.data_window.specs.declared.find.Finding.the-variants.{Found, Refused as NoWindow}
-use Rattle.data_window.specs.declared.refusal.Refusal.the-variants.{PastBuffer}
+use Rattle.data_window.specs.declared.refusal.DataRefusal.the-variants.{PastBuffer}
 use Rattle.data_cells.specs.declared.target.CellTarget.{CellTarget}
 use Rattle.data_cells.specs.declared.target.CellTarget.the-variants.{At, Refused}
 use Rattle.data_window.specs.Find.{findIn}
 use Rattle.data_order.specs.Orders.{cellDistance, ordered}
 
--- the first cell of an access, and the byte order; whether cells are past the buffer, which only an altered board has, is tested last
+-- the first cell of an access, and the byte order; whether cells are past the buffer, which only an
+-- altered board has, is tested last
 abbrev pub cellsAt : ℕ → ℕ → ℕ → ℕ → ℕ → CellTarget
 cellsAt begin order room w distance =
-    let at = begin + cellDistance order w distance in cond (ltb room (at + w)) (Refused PastBuffer) (At at order)
+    let at = begin + cellDistance order w distance in
+    cond (ltb room (at + w)) (Refused PastBuffer) (At at order)
 
 -- begins b is where the cells of base register b begin, orders b its byte order
 unfoldable pub cellTargetOf : (ℕ → ℕ) → (ℕ → ℕ) → ℕ → ℕ → Finding → CellTarget
-cellTargetOf begins orders room w (Found base distance remaining) = cellsAt (begins base) (orders base) room w distance
+cellTargetOf begins orders room w (Found base distance remaining) =
+    cellsAt (begins base) (orders base) room w distance
 cellTargetOf begins orders room w (NoWindow r) = Refused r
 
--- of the lent parts, for what was found in the windows of the function at a place, with so many cells lent
+-- of the lent parts, for what was found in the windows of the function at a place, with so many
+-- cells lent
 abbrev pub cellTargetIn : List ℕ → List ℕ → ℕ → ℕ → ℕ → Finding → CellTarget
 cellTargetIn records offsets room w function finding =
-    cellTargetOf (λ b. getD offsets (bases * function + b) 0) (byteOrder records function) room w finding
+    cellTargetOf (λ b. getD offsets (bases * function + b) 0) (byteOrder records function)
+    room w finding
 
 abbrev pub cellTarget : ℕ → List ℕ → List ℕ → List ℕ → List ℕ → ℕ → ℕ → ℕ → ℕ → CellTarget
 cellTarget w header records windows offsets room space handle address =
-    cellTargetIn records offsets room w (handle - 1) (findIn w header records windows offsets room space handle address)
+    cellTargetIn records offsets room w (handle - 1)
+    (findIn w header records windows offsets room space handle address)
 
 -- cells are read high byte first
 abbrev pub cellsValue : ℕ → ℕ → ℕ → List ℕ → ℕ

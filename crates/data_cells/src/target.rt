@@ -1,4 +1,5 @@
-// Where the cells of an access stand.
+// Where the cells of an access stand: where those of its window's slot begin, and from there the
+// distance that the byte order gives.
 use board::address::BusAddress;
 use board::handle::place_of_handle;
 use board::layout::BASES;
@@ -11,7 +12,7 @@ use board::space::Space;
 use data_order::order::cell_distance;
 use data_window::find::Finding;
 use data_window::find::find_window;
-use data_window::refusal::Refusal;
+use data_window::refusal::DataRefusal;
 use numbers::number::Width;
 use numbers::number::bytes_by_shift;
 use numbers::number::u32_at;
@@ -25,8 +26,10 @@ ghost use Rattle.data_cells.specs.Cells.{cellsAt, cellTargetIn, cellTarg
 
 // The first cell and the byte order of an access, or why it is refused.
 pub enum CellTarget {
+    // 0: all cells of the access are in the buffer.
     At { at: usize, order: u8 },
-    Refused(Refusal),
+    // -9, -7, -8 or -2, as the refusal says.
+    Refused(DataRefusal),
 }
 
 // The cells for a distance into the window of a base register.
@@ -39,13 +42,16 @@ fn cells_at(
     base: u8,
     distance: u32,
 ) -> CellTarget
-    ensures { λ r. ⌜ r ≡ cellsAt (getD (now (offsets .entry)) (bases * function + base) 0) (byteOrder (now (records .entry)) function base) room (bytes width) distance ⌝ }
+    ensures { λ r. ⌜ r ≡ cellsAt
+        (getD (now (offsets .entry)) (bases * function + base) 0)
+        (byteOrder (now (records .entry)) function base)
+        room (bytes width) distance ⌝ }
 {
     let order = byte_order(records, function, base);
     let begin = u32_at(offsets, BASES * (function as usize) + base as usize);
     let at = begin as usize + cell_distance(order, width, distance) as usize;
     if room < at + bytes_by_shift(width) as usize {
-        return CellTarget::Refused(Refusal::PastBuffer);
+        return CellTarget::Refused(DataRefusal::PastBuffer);
     }
     CellTarget::At {
         at: at,
@@ -62,7 +68,8 @@ pub fn cell_target_of(
     function: u32,
     finding: Finding,
 ) -> CellTarget
-    ensures { λ r. ⌜ r ≡ cellTargetIn (now (records .entry)) (now (offsets .entry)) room (bytes width) function finding ⌝ }
+    ensures { λ r. ⌜ r ≡ cellTargetIn (now (records .entry)) (now (offsets .entry))
+        room (bytes width) function finding ⌝ }
 {
     match finding {
         Finding::Found {
@@ -86,7 +93,9 @@ pub fn cell_target(
     handle: u32,
     address: BusAddress,
 ) -> CellTarget
-    ensures { λ r. ⌜ r ≡ cellTarget (bytes width) (now (header .entry)) (now (records .entry)) (now (windows .entry)) (now (offsets .entry)) room (spaceNumber space) handle (address .0) ⌝ }
+    ensures { λ r. ⌜ r ≡ cellTarget (bytes width)
+        (now (header .entry)) (now (records .entry)) (now (windows .entry)) (now (offsets .entry))
+        room (spaceNumber space) handle (address .0) ⌝ }
 {
     let finding = find_window(
         header,

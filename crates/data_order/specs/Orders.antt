@@ -5,7 +5,8 @@ use lib.Bits.{bitXor}
 use lib.Dec.{eqb}
 use Rattle.numbers.specs.Numbers.{reversed}
 
--- where w cells stand for a distance o from the window's start: order 1 uses o XOR 3 for bytes, o XOR 2 for words, o for longwords; every other order o
+-- where w cells stand for a distance o from the window's start: order 1 uses o XOR 3 for bytes,
+-- o XOR 2 for words, o for longwords; every other order o
 abbrev pub cellDistance : ℕ → ℕ → ℕ → ℕ
 cellDistance order w o = cond (eqb order 1) (bitXor o (4 - w)) o
 

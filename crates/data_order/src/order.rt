@@ -1,4 +1,5 @@
-// The byte-order rule.
+// The byte-order rule: order 1 moves the cells and order 2 reverses the bytes, and no order does
+// both. 4 less the width is 3, 2 or 0, so that one XOR serves all widths.
 use numbers::number::Width;
 use numbers::number::bytes_by_shift;
 use numbers::number::reversed;
@@ -6,7 +7,7 @@ ghost use mathlib.Core.Path.{_≡_};
 ghost use Rattle.numbers.specs.Numbers.{bytes};
 ghost use Rattle.data_order.specs.Orders.{cellDistance, ordered};
 
-// The byte orders that differ from order 0.
+// The byte orders that differ from order 0; 15 does not.
 const SWAPPED_PLACES: u8 = 1;
 
 pub const REVERSED_BYTES: u8 = 2;

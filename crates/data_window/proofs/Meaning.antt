@@ -8,7 +8,7 @@ use borrow.Author.Tests.{eqb-true}
 use Rattle.numbers.specs.Numbers.{isMultiple}
 use Rattle.window.specs.Window.{Window, end, In}
 use Rattle.data_window.specs.declared.find.Finding.the-variants.{Found, Refused}
-use Rattle.data_window.specs.declared.refusal.Refusal.the-variants.{BadHandle, ShortCells, NotAligned, Contested, WidthMissing}
+use Rattle.data_window.specs.declared.refusal.DataRefusal.the-variants.{BadHandle, ShortCells, NotAligned, Contested, WidthMissing}
 use Rattle.data_window.specs.Find.{holds, checkedWindow, inList, find}
 use Rattle.data_window.specs.Meaning.{FoundFor, FoundMeans}
 

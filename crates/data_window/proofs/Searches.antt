@@ -1,4 +1,4 @@
--- A turn of the search through the kept list, at place j.
+-- A turn of the search through the kept list, at position j.
 use Prim.Native.Nat.{ℕ, zero, suc, _+_, _-_, _<_, _≤_}
 use native.Mathlib.Omega.{arith}
 use mathlib.Core.Bool.{Bool, true, false, not}
@@ -13,7 +13,7 @@ use Rattle.window.specs.Kept.{unpack, isEnd, unpacked}
 use Rattle.window.specs.Window.{Window, end}
 use Rattle.window.proofs.Unpacked.{unpacked-none, unpacked-one, unpacked-end}
 use Rattle.data_window.specs.declared.find.Finding.the-variants.{Refused}
-use Rattle.data_window.specs.declared.refusal.Refusal.the-variants.{Nothing}
+use Rattle.data_window.specs.declared.refusal.DataRefusal.the-variants.{Nothing}
 use Rattle.data_window.specs.Find.{holds, checkedWindow, inList}
 
 -- a space is memory exactly if it is not I/O

@@ -1,5 +1,7 @@
-// The step that finds the window for a handle.
-use crate::refusal::Refusal;
+// The step that finds the window for a handle: one pass over the kept list, after the checks that
+// need no window. Where two windows of a function hold an address both are contested, so that the
+// first decides.
+use crate::refusal::DataRefusal;
 use board::address::BusAddress;
 use board::handle::is_handle;
 use board::handle::place_of_handle;
@@ -32,14 +34,16 @@ ghost use Rattle.window.specs.Kept.{unpack, unpacked};
 ghost use Rattle.window.specs.Window.{end};
 ghost use Rattle.data_window.specs.Find.{holds, offers, checkedWindow, inList, findIn};
 
-// The window that an access is for, with its distance from the window's start and the bytes that remain to its end; or the check that failed.
+// The window that an access is for, with its distance from the window's start and the bytes that
+// remain to its end; or the check that failed.
 pub enum Finding {
     Found {
         base: u8,
         distance: u32,
         remaining: u32,
     },
-    Refused(Refusal),
+    // -9, -7, -8 or -2, as the refusal says.
+    Refused(DataRefusal),
 }
 
 fn is_in(w: u64, space: Space) -> bool
@@ -51,7 +55,8 @@ fn is_in(w: u64, space: Space) -> bool
     }
 }
 
-// Whether a kept number is a window of the function's own, in that space, that holds the address. The handle is compared first, as it tells most windows apart.
+// Whether a kept number is a window of the function's own, in that space, that holds the address.
+// The handle is compared first, as it tells most windows apart.
 fn holds(w: u64, space: Space, handle: u32, address: u32) -> bool
     ensures { λ r. ⌜ r ≡ holds (spaceNumber space) handle address (unpack w) ⌝ }
 {
@@ -72,16 +77,18 @@ fn offers(width: Width, widths: u8) -> bool
 // What is found in a window that holds the address.
 fn check_window(records: &Records, w: u64, width: Width, function: u32, address: u32) -> Finding
     requires { ⌜ (unpack w .start ≤ address) × (address < end (unpack w)) ⌝ }
-    ensures { λ r. ⌜ r ≡ checkedWindow (λ b. offers (bytes width) (widths (now (records .entry)) function b)) address (unpack w) ⌝ }
+    ensures { λ r. ⌜ r ≡ checkedWindow
+        (λ b. offers (bytes width) (widths (now (records .entry)) function b))
+        address (unpack w) ⌝ }
 {
     let base = base_of(w) as u8;
     let contested = is_contested(w);
     let offered = offers(width, widths(records, function, base));
     if contested {
-        return Finding::Refused(Refusal::Contested);
+        return Finding::Refused(DataRefusal::Contested);
     }
     if !offered {
-        return Finding::Refused(Refusal::WidthMissing);
+        return Finding::Refused(DataRefusal::WidthMissing);
     }
     let distance = address - start_of(w);
     let remaining = length_of(w) - distance;
@@ -102,20 +109,23 @@ fn in_list(
     address: u32,
 ) -> Finding
     requires { ⌜ 0 < handle ⌝ }
-    ensures { λ r. ⌜ r ≡ inList (λ b. offers (bytes width) (widths (now (records .entry)) (handle - 1) b)) (spaceNumber space) handle address (unpacked (now (list .entry))) ⌝ }
+    ensures { λ r. ⌜ r ≡ inList
+        (λ b. offers (bytes width) (widths (now (records .entry)) (handle - 1) b))
+        (spaceNumber space) handle address (unpacked (now (list .entry))) ⌝ }
 {
     let mut j = 0;
+    // Invariant: the windows from j on give what the whole list gives.
     while j < list.len() {
         let w = list[j];
         if is_end(w) {
-            return Finding::Refused(Refusal::Nothing);
+            return Finding::Refused(DataRefusal::Nothing);
         }
         if holds(w, space, handle, address) {
             return check_window(records, w, width, place_of_handle(handle), address);
         }
         j += 1;
     }
-    Finding::Refused(Refusal::Nothing)
+    Finding::Refused(DataRefusal::Nothing)
 }
 
 // The window of a handle that holds an address, with so many cells lent.
@@ -130,19 +140,21 @@ pub fn find_window(
     handle: u32,
     address: BusAddress,
 ) -> Finding
-    ensures { λ r. ⌜ r ≡ findIn (bytes width) (now (header .entry)) (now (records .entry)) (now (windows .entry)) (now (offsets .entry)) room (spaceNumber space) handle (address .0) ⌝ }
+    ensures { λ r. ⌜ r ≡ findIn (bytes width)
+        (now (header .entry)) (now (records .entry)) (now (windows .entry)) (now (offsets .entry))
+        room (spaceNumber space) handle (address .0) ⌝ }
 {
     let good = is_handle(header, handle);
     let short = room < u32_at(offsets, WINDOWS) as usize;
     let aligned = is_multiple_by_shift(address.0, width);
     if !good {
-        return Finding::Refused(Refusal::BadHandle);
+        return Finding::Refused(DataRefusal::BadHandle);
     }
     if short {
-        return Finding::Refused(Refusal::ShortCells);
+        return Finding::Refused(DataRefusal::ShortCells);
     }
     if !aligned {
-        return Finding::Refused(Refusal::NotAligned);
+        return Finding::Refused(DataRefusal::NotAligned);
     }
     in_list(records, windows, space, width, handle, address.0)
 }

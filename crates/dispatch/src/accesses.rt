@@ -1,4 +1,4 @@
-// Accesses to registers and to cells.
+// Accesses to registers and to cells: a read, a fast read or a write, each by its own function.
 use board::address::BusAddress;
 use board::layout::CellOffsets;
 use board::layout::Header;
@@ -32,7 +32,10 @@ pub(crate) fn config_access(
     register: u8,
     access: Access,
 ) -> Answer
-    ensures { λ r. ⌜ configOutcome r (now (registers .exit)) (now (windows .exit)) ≡ configAccess (now (header .entry)) (now (records .entry)) (now (registers .entry)) (now (windows .entry)) width handle register access ⌝ }
+    ensures { λ r. ⌜ configOutcome r (now (registers .exit)) (now (windows .exit))
+        ≡ configAccess
+        (now (header .entry)) (now (records .entry)) (now (registers .entry)) (now (windows .entry))
+        width handle register access ⌝ }
 {
     match access {
         Access::Read => { of_read(read_config(header, registers, width, handle, register)) },
@@ -67,7 +70,10 @@ pub(crate) fn data_access(
     address: BusAddress,
     access: Access,
 ) -> Answer
-    ensures { λ r. ⌜ dataOutcome r (now (cells .exit)) ≡ dataAccess (now (header .entry)) (now (records .entry)) (now (windows .entry)) (now (offsets .entry)) (now (cells .entry)) space width handle address access ⌝ }
+    ensures { λ r. ⌜ dataOutcome r (now (cells .exit))
+        ≡ dataAccess
+        (now (header .entry)) (now (records .entry)) (now (windows .entry)) (now (offsets .entry))
+        (now (cells .entry)) space width handle address access ⌝ }
 {
     match access {
         Access::Read => {

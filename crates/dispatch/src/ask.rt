@@ -1,4 +1,4 @@
-// The calls that change nothing.
+// The calls that change nothing. All lent parts are shared here, so that the types already say it.
 use address_convert::convert::bus_to_cpu;
 use address_convert::convert::cpu_to_bus;
 use board::layout::Header;
@@ -29,7 +29,8 @@ ghost use Prim.Native.Nat.{ℕ};
 ghost use Rattle.board.specs.Parts.{parts};
 ghost use Rattle.reference.specs.State.{queried};
 
-// The answer of a call that changes nothing. No query of document 01 asks even how many cells there are, so it is stated whatever they and their offsets are.
+// The answer of a call that changes nothing. No query of document 01 asks even how many cells there
+// are, so it is stated whatever they and their offsets are.
 pub(crate) fn ask(
     query: Query,
     header: &Header,
@@ -39,7 +40,11 @@ pub(crate) fn ask(
     hooks: &Hooks,
     used: &Used,
 ) -> Answer
-    ensures { λ r. ⌜ ((offsets cells : List ℕ) → r ≡ queried (parts (now (header .entry)) (now (records .entry)) (now (registers .entry)) (now (windows .entry)) offsets (now (hooks .entry)) (now (used .entry)) cells) query) ⌝ }
+    ensures { λ r. ⌜
+        ((offsets cells : List ℕ) → r ≡ queried
+        (parts (now (header .entry)) (now (records .entry)) (now (registers .entry))
+        (now (windows .entry)) offsets (now (hooks .entry)) (now (used .entry)) cells)
+        query) ⌝ }
 {
     match query {
         Query::FindPciDevice { id, index } => { device_answer(header, registers, id, index) }
@@ -63,6 +68,6 @@ pub(crate) fn ask(
         Query::SpecialCycle { bus, message } => of_status(special_cycle(bus, message)),
         Query::GetRouting { handle } => of_status(get_routing(handle)),
         Query::SetInterrupt { handle, mode } => of_status(set_interrupt(handle, mode)),
-        Query::ListWindow { n } => of_listing(list_window(windows, n)),
+        Query::ListWindow { index } => of_listing(list_window(windows, index)),
     }
 }

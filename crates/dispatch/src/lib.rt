@@ -1,4 +1,4 @@
-// Every call on a board through one function.
+// Every call on a board through one function, the step of a run.
 mod accesses;
 mod ask;
 pub mod perform;

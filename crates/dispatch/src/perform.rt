@@ -1,4 +1,7 @@
-// Every call on a board through one function.
+// Every call on a board through one function. Its contract is the step that the claims about runs
+// speak of (`step`, crates/reference/specs/State.antt), so that they are claims about it. It
+// decides nothing: each arm hands the lent parts to the call's own function, and makes the answer
+// of what comes back.
 use crate::accesses::config_access;
 use crate::accesses::data_access;
 use crate::ask::ask;
@@ -25,7 +28,8 @@ ghost use mathlib.Core.Path.{_≡_};
 ghost use Rattle.board.specs.Parts.{parts};
 ghost use Rattle.reference.specs.State.{outcome, step};
 
-// Performs a call: its own bytes, an image or an output, are lent beside the board's parts and the cells.
+// Performs a call: its own bytes, an image or an output, are lent beside the board's parts and the
+// cells.
 pub fn perform(
     call: Call,
     header: &mut Header,
@@ -38,7 +42,16 @@ pub fn perform(
     cells: &mut [u8],
     own: &mut [u8],
 ) -> Answer
-    ensures { λ r. ⌜ outcome r (parts (now (header .exit)) (now (records .exit)) (now (registers .exit)) (now (windows .exit)) (now (offsets .exit)) (now (hooks .exit)) (now (used .exit)) (now (cells .exit))) (now (own .exit)) ≡ step (parts (now (header .entry)) (now (records .entry)) (now (registers .entry)) (now (windows .entry)) (now (offsets .entry)) (now (hooks .entry)) (now (used .entry)) (now (cells .entry))) call (now (own .entry)) ⌝ }
+    ensures { λ r. ⌜ outcome r
+        (parts (now (header .exit)) (now (records .exit)) (now (registers .exit))
+        (now (windows .exit)) (now (offsets .exit))
+        (now (hooks .exit)) (now (used .exit)) (now (cells .exit)))
+        (now (own .exit))
+        ≡ step
+        (parts (now (header .entry)) (now (records .entry)) (now (registers .entry))
+        (now (windows .entry)) (now (offsets .entry))
+        (now (hooks .entry)) (now (used .entry)) (now (cells .entry)))
+        call (now (own .entry)) ⌝ }
 {
     match call {
         Call::Load => {

@@ -1,4 +1,5 @@
-// The check of a board image, without a board.
+// The check of a board image, without a board. It goes in the order of the refusals' numbers: no
+// record is read before the trailer has said where the records are, and that they are all there.
 use cell_layout::cells::total_of;
 use image_layout::layout::IMAGE_RECORD;
 use image_layout::layout::records_range;
@@ -23,12 +24,13 @@ ghost use Rattle.image_check.specs.Check.{checkedAnyLength, checked};
 // Bytes of an image at most.
 pub const IMAGE: usize = 65536;
 
-// The first of count records that breaks a rule, count where none does.
+// The place of the first of count records that breaks a rule, count where none does.
 fn first_bad(records: &[u8], count: usize) -> usize
     requires { ⌜ (count ≤ functionsMax) × (length (now records) ≡ imageRecord * count) ⌝ }
     ensures { λ r. ⌜ r ≡ firstBad (λ i. recordOk (recordAt (now (records .entry)) i)) 0 count ⌝ }
 {
     let mut i = 0;
+    // Invariant: the first bad record from place i on, or count, is that of all records.
     while i < count {
         let from = IMAGE_RECORD * i;
         let to = from + IMAGE_RECORD;
@@ -40,10 +42,14 @@ fn first_bad(records: &[u8], count: usize) -> usize
     i
 }
 
-// Refusals 5 to 8 of count records, with the sum that the trailer says. The total is read as of kept records, which an image's records are as they stand.
+// Refusals 5 to 8 of count records, with the sum that the trailer says. The total is read as of
+// kept records, which an image's records are as they stand.
 fn records_verdict(records: &[u8], count: usize, said: u32, room: usize) -> Verdict
     requires { ⌜ (count ≤ functionsMax) × (length (now records) ≡ imageRecord * count) ⌝ }
-    ensures { λ r. ⌜ r ≡ recordsVerdict (sum (now (records .entry))) said (firstBad (λ i. recordOk (recordAt (now (records .entry)) i)) 0 count) count (total (exponent (now (records .entry)))) room ⌝ }
+    ensures { λ r. ⌜ r
+        ≡ recordsVerdict (sum (now (records .entry))) said
+        (firstBad (λ i. recordOk (recordAt (now (records .entry)) i)) 0 count) count
+        (total (exponent (now (records .entry)))) room ⌝ }
 {
     if sum_of(records) != said {
         return plain(5);
@@ -73,7 +79,7 @@ pub fn check_any_length(image: &[u8], room: usize) -> Verdict
     records_verdict(&image[from..to], t.count as usize, t.sum, room)
 }
 
-// Whether a board may be loaded from an image with so many cells lent.
+// All refusals of an image, with so many cells lent.
 pub fn check_image(image: &[u8], room: usize) -> Verdict
     ensures { λ r. ⌜ r ≡ checked (now (image .entry)) room ⌝ }
 {

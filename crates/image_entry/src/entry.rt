@@ -4,7 +4,7 @@ ghost use mathlib.Core.Path.{_≡_};
 ghost use Prim.Native.Nat.{_<_, _≤_};
 ghost use Rattle.image_entry.specs.Entry.{emptyOk, formOk, lowBitsOk, maskOk, entryOk};
 
-// An entry's fields, and the registers that it speaks of.
+// An entry's four bytes, and the reset value and the mask of its base register.
 pub struct Entry {
     pub exponent: u8,
     pub order: u8,
@@ -53,6 +53,8 @@ fn low_bits_ok(value: u32, size: u64) -> bool
     }
 }
 
+// Whether an entry keeps the rules. The form is tested first: it bounds the exponent, and with it
+// the size.
 pub fn entry_ok(e: Entry) -> bool
     ensures { λ r. ⌜ r ≡ entryOk e ⌝ }
 {

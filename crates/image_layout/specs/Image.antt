@@ -1,4 +1,5 @@
--- A board image: document 01, "Board image". Everything is found by its distance back from the image's end.
+-- A board image: document 01, "Board image". Everything is found by its distance back from the
+-- image's end.
 use Prim.Native.Nat.{ℕ, _+_, _-_, _*_}
 use mathlib.Core.List.{List, [], _∷_, _++_}
 use lib.ListN.{length, take, drop}
@@ -37,7 +38,12 @@ sumOf image = back 4 image 4
 
 abbrev pub trailerOf : List ℕ → Trailer
 trailerOf image =
-    record { distance = distanceOf image; count = countOf image; edition = editionOf image; sum = sumOf image }
+    record {
+      distance = distanceOf image;
+      count = countOf image;
+      edition = editionOf image;
+      sum = sumOf image;
+    }
 
 -- where the records stand in an image of so many bytes
 abbrev pub recordsRange : ℕ → ℕ → Range
@@ -46,7 +52,8 @@ recordsRange long count =
 
 -- the bytes of the records, and those of the record at place i of them
 abbrev pub recordsOf : List ℕ → List ℕ
-recordsOf image = take (imageRecord * countOf image) (drop (length image - imageSize (countOf image)) image)
+recordsOf image =
+    take (imageRecord * countOf image) (drop (length image - imageSize (countOf image)) image)
 
 abbrev pub recordAt : List ℕ → ℕ → List ℕ
 recordAt records i = take imageRecord (drop (imageRecord * i) records)
@@ -56,9 +63,14 @@ unfoldable pub sum : List ℕ → ℕ
 sum [] = 0
 sum (b ∷ l) = b + sum l
 
--- an image without notes, of the first count kept records
+-- the trailer that is written
 abbrev pub trailer : ℕ → ℕ → List ℕ
-trailer count sum = bigBytes 4 (imageSize count) ++ (bigBytes 2 count ++ (bigBytes 2 1 ++ bigBytes 4 sum))
+trailer count sum =
+    bigBytes 4 (imageSize count)
+    ++ (bigBytes 2 count ++ (bigBytes 2 1 ++ bigBytes 4 sum))
 
+-- an image without notes, of the first count kept records
 abbrev pub imageOf : ℕ → List ℕ → List ℕ
-imageOf count records = take (recordSize * count) records ++ trailer count (sum (take (recordSize * count) records))
+imageOf count records =
+    take (recordSize * count) records
+    ++ trailer count (sum (take (recordSize * count) records))

@@ -1,4 +1,5 @@
-// The lengths of an image's parts, and where they stand.
+// The lengths of an image's parts, and where they stand: all is found from the end, as notes of any
+// length may come before the records.
 ghost use mathlib.Core.Path.{_≡_};
 ghost use Prim.Native.Nat.{_-_};
 ghost use Rattle.image_layout.specs.Image.{imageSize, recordsRange};

@@ -1,4 +1,5 @@
-// The sum of the bytes of records.
+// The sum of the bytes of records. It is added up from the last byte back, as the definition adds
+// a list up: each byte to the sum of those after it.
 use crate::layout::IMAGE_RECORD;
 use board::layout::FUNCTIONS;
 use numbers::number::wide;
@@ -8,13 +9,14 @@ ghost use lib.ListN.{length, take};
 ghost use Rattle.board.specs.Layout.{functionsMax};
 ghost use Rattle.image_layout.specs.Image.{imageRecord, sum};
 
-// The sum of bytes that are no more than the records of an image.
+// The sum of bytes that are no more than the records of an image, so that 32 bits hold it.
 fn sum_all(s: &[u8]) -> u32
     requires { ⌜ length (now s) ≤ functionsMax * imageRecord ⌝ }
     ensures { λ r. ⌜ r ≡ sum (now (s .entry)) ⌝ }
 {
     let mut t: u32 = 0;
     let mut i = s.len();
+    // Invariant: t is the sum of the bytes from position i on, at most 255 for each.
     while 0 < i {
         i -= 1;
         t = wide(s[i]) + t;

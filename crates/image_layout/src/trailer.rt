@@ -6,6 +6,7 @@ ghost use mathlib.Core.Path.{_≡_};
 ghost use Rattle.numbers.specs.Numbers.{bytes};
 ghost use Rattle.image_layout.specs.Image.{back, trailerOf};
 
+// The trailer's numbers, in their order.
 pub struct Trailer {
     pub distance: u32,
     pub count: u32,
@@ -20,6 +21,7 @@ fn number_back(image: &[u8], distance: usize, width: Width) -> u32
     big_at(image, position_back(image.len(), distance), width)
 }
 
+// The trailer of an image: its last 12 bytes.
 pub fn trailer_of(image: &[u8]) -> Trailer
     ensures { λ r. ⌜ r ≡ trailerOf (now (image .entry)) ⌝ }
 {

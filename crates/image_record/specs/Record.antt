@@ -1,4 +1,4 @@
--- The rules of one record: document 01, "Board image", "Record rules". r is the bytes of the record.
+-- The rules of one record: document 01, "Board image", "Record rules". r is the record's bytes.
 use Prim.Native.Nat.{ℕ, _+_, _*_, _%_, _^_}
 use mathlib.Core.Bool.{Bool, not, _&&_}
 use mathlib.Core.List.{List}
@@ -30,7 +30,10 @@ abbrev pub masksOk : List ℕ → Bool
 masksOk r =
     eqb (maskAt 4 r 0x00) 0
     && (eqb (maskAt 4 r 0x08) 0
-    && (eqb (maskAt 1 r 0x0E) 0 && (eqb (maskAt 4 r 0x2C) 0 && (eqb (maskAt 4 r 0x30) 0 && eqb (maskAt 1 r 0x3D) 0))))
+    && (eqb (maskAt 1 r 0x0E) 0
+    && (eqb (maskAt 4 r 0x2C) 0
+    && (eqb (maskAt 4 r 0x30) 0
+    && eqb (maskAt 1 r 0x3D) 0))))
 
 abbrev pub romOk : List ℕ → Bool
 romOk r = eqb (resetAt 4 r 0x30) 0
@@ -51,11 +54,16 @@ abbrev pub entriesOk : List ℕ → Bool
 entriesOk r =
     entryOk (entryAt r 0)
     && (entryOk (entryAt r 1)
-    && (entryOk (entryAt r 2) && (entryOk (entryAt r 3) && (entryOk (entryAt r 4) && entryOk (entryAt r 5)))))
+    && (entryOk (entryAt r 2)
+    && (entryOk (entryAt r 3)
+    && (entryOk (entryAt r 4)
+    && entryOk (entryAt r 5)))))
 
 -- the offset is a multiple of 4
 abbrev pub offsetOk : List ℕ → Bool
 offsetOk r = isMultiple (big 4 (byteAt r) offsetAt) 4
 
 unfoldable pub recordOk : List ℕ → Bool
-recordOk r = vendorOk r && (headerTypeOk r && (pinOk r && (masksOk r && (romOk r && (entriesOk r && offsetOk r)))))
+recordOk r =
+    vendorOk r && (headerTypeOk r && (pinOk r
+    && (masksOk r && (romOk r && (entriesOk r && offsetOk r)))))

@@ -1,4 +1,5 @@
-// The rules of a record.
+// The rules of one record of an image; those of a window entry are crate image_entry's. The reader
+// gives 0 past the end, so that no rule needs the record's length.
 use board::layout::BASE_0;
 use board::layout::ENTRIES;
 use board::layout::ENTRY;
@@ -16,11 +17,24 @@ ghost use mathlib.Core.Bool.{_&&_};
 ghost use Prim.Native.Nat.{_<_};
 ghost use Rattle.board.specs.Layout.{bases};
 ghost use Rattle.numbers.specs.Numbers.{bytes};
-ghost use Rattle.image_record.specs.Record.{maskAt, vendorOk, headerTypeOk, pinOk, masksOk, romOk, entryAt, entriesOk, offsetOk, recordOk};
+ghost use Rattle.image_record.specs.Record.{
+  maskAt,
+  vendorOk,
+  headerTypeOk,
+  pinOk,
+  masksOk,
+  romOk,
+  entryAt,
+  entriesOk,
+  offsetOk,
+  recordOk,
+};
 
 // Vendor, header type and pin.
 fn identity_ok(r: &[u8]) -> bool
-    ensures { λ ok. ⌜ ok ≡ (vendorOk (now (r .entry)) && (headerTypeOk (now (r .entry)) && pinOk (now (r .entry)))) ⌝ }
+    ensures { λ ok. ⌜ ok
+        ≡ (vendorOk (now (r .entry))
+        && (headerTypeOk (now (r .entry)) && pinOk (now (r .entry)))) ⌝ }
 {
     let vendor_ok = little_at(r, 0x00, Width::Word) != 0xFFFF;
     let header_type_ok = byte_at(r, 0x0E) % 128 == 0;
@@ -47,7 +61,7 @@ fn masks_ok(r: &[u8]) -> bool
                         & (mask_at(r, 0x3D, Width::Byte) == 0)))))
 }
 
-// No expansion ROM.
+// No expansion ROM: the reset values at 30h to 33h are zero.
 fn rom_ok(r: &[u8]) -> bool
     ensures { λ ok. ⌜ ok ≡ romOk (now (r .entry)) ⌝ }
 {
@@ -71,6 +85,7 @@ fn entry_at(r: &[u8], b: u8) -> Entry
     }
 }
 
+// All six entries keep the rules.
 fn entries_ok(r: &[u8]) -> bool
     ensures { λ ok. ⌜ ok ≡ entriesOk (now (r .entry)) ⌝ }
 {

@@ -1,4 +1,4 @@
--- The trailer's tests, one after the other.
+-- The tests of refusals 1 to 4, one after the other.
 use Prim.Native.Nat.{ℕ, _≤_}
 use mathlib.Core.Bool.{cond}
 use mathlib.Core.Path.{_≡_}

@@ -1,4 +1,5 @@
-// The verdict of a check: what needs no bytes of the image.
+// The verdict of a check, and the refusals that need no record: 1 to 4, of the trailer's numbers,
+// and 7 and 8, of the cells.
 use board::layout::FUNCTIONS;
 use image_layout::layout::TRAILER;
 use image_layout::layout::image_size;
@@ -9,10 +10,11 @@ ghost use Rattle.image_layout.specs.Image.{imageSize};
 ghost use Rattle.image_refusals.specs.Refusals.{isAccepted, refused};
 ghost use Rattle.image_refusals.specs.Steps.{formRefusal, cellsVerdict};
 
-// Bytes of all cells at most.
+// Cells of a board at most.
 pub const CELLS: u32 = 65536;
 
-// The number of the first refusal that applies, 0 for none; with 6 the place of the first bad record, else 0.
+// The number of the first refusal that applies, 0 for none; with 6 the place of the first bad
+// record, else 0.
 pub struct Verdict {
     pub number: i32,
     pub place: u32,
@@ -62,7 +64,7 @@ pub fn form_refusal(long: usize, edition: u32, count: u32, distance: u32) -> u8
     0
 }
 
-// Refusals 7 and 8.
+// Refusals 7, windows above 65,536 in total, and 8, lent cells too short.
 pub fn cells_verdict(total: u32, room: usize) -> Verdict
     ensures { λ r. ⌜ r ≡ cellsVerdict total room ⌝ }
 {

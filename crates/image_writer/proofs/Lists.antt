@@ -1,4 +1,4 @@
--- Laws of lists: images put.
+-- Laws of lists: an image put to the front of an output, its records first, then its trailer.
 use Prim.Native.Nat.{ℕ, _+_, _-_, _≤_}
 use native.Mathlib.Omega.{arith}
 use mathlib.Core.Path.{_≡_, refl, sym, _∙_, ap}

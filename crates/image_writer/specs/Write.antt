@@ -20,4 +20,5 @@ unfoldable pub writeImage : List ℕ → List ℕ → List ℕ → WriterOutcome
 writeImage header records out =
     cond (ltb (length out) (imageSize (functionCount header))) (writerOutcome 1 out)
     (cond (eqb (functionCount header) 0) (writerOutcome 3 out)
-    (writerOutcome 0 (imageOf (functionCount header) records ++ drop (imageSize (functionCount header)) out)))
+    (writerOutcome 0
+    (imageOf (functionCount header) records ++ drop (imageSize (functionCount header)) out)))

@@ -1,4 +1,5 @@
-// The writer: the loaded board as an image without notes.
+// The writer: the loaded board as an image without notes. The loaded records are written, so that
+// later writes to registers do not show in the image.
 use board::handle::function_count;
 use board::layout::Header;
 use board::layout::RECORD;
@@ -46,10 +47,14 @@ fn trailer(count: u32, sum: u32) -> [u8; TRAILER]
     ]
 }
 
-// An image at the front of the output: the kept records, which an image has as they are, and the trailer where they end there.
+// An image at the front of the output: the kept records, which an image has as they are, and the
+// trailer where they end there.
 fn put_image(records: &[u8], count: u32, out: &mut [u8])
-    requires { ⌜ (count ≤ functionsMax) × ((length (now records) ≡ functionsMax * recordSize) × (imageSize count ≤ length (now out))) ⌝ }
-    ensures { λ _. ⌜ now (out .exit) ≡ imageOf count (now (records .entry)) ++ drop (imageSize count) (now (out .entry)) ⌝ }
+    requires { ⌜ (count ≤ functionsMax)
+        × ((length (now records) ≡ functionsMax * recordSize)
+        × (imageSize count ≤ length (now out))) ⌝ }
+    ensures { λ _. ⌜ now (out .exit)
+        ≡ imageOf count (now (records .entry)) ++ drop (imageSize count) (now (out .entry)) ⌝ }
 {
     let kept = RECORD * count as usize;
     copy(&records[..kept], out);
@@ -58,9 +63,11 @@ fn put_image(records: &[u8], count: u32, out: &mut [u8])
     copy(&t, &mut out[end..]);
 }
 
-// The loaded board as an image; the number of the refusal, 0 for none.
+// The loaded board as an image; the number of the refusal, 0 for none: 1 where the output is too
+// short, then 3 for an empty board.
 pub fn write_image(header: &Header, records: &Records, out: &mut [u8]) -> u8
-    ensures { λ r. ⌜ writerOutcome r (now (out .exit)) ≡ writeImage (now (header .entry)) (now (records .entry)) (now (out .entry)) ⌝ }
+    ensures { λ r. ⌜ writerOutcome r (now (out .exit))
+        ≡ writeImage (now (header .entry)) (now (records .entry)) (now (out .entry)) ⌝ }
 {
     let count = function_count(header);
     if out.len() < image_size(count) {

@@ -1,4 +1,6 @@
--- Hooks, the array that holds them, and the chain of a line: document 01, "The modelled board" and "Chains and marks".
+-- Hooks, the array that holds them, and the chain of a line: document 01, "The modelled board" and
+-- "Chains and marks". One array of 16 hooks holds the chains of all lines, as a function has at
+-- most one hook; the chain of a line is what the array has of it, in its order.
 use Prim.Native.Nat.{ℕ, zero, suc, _+_, _*_, _-_, _/_, _%_}
 use mathlib.Core.Bool.{Bool, cond, _&&_, not}
 use mathlib.Core.List.{List, [], _∷_}
@@ -24,9 +26,12 @@ isHook h = not (eqb (h .handle) 0)
 
 -- hook e of the array
 abbrev pub hookAt : List ℕ → ℕ → Hook
-hookAt hooks e = hook (getD hooks (hookSize * e) 0) (getD hooks (hookSize * e + 1) 0) (getD hooks (hookSize * e + 2) 0)
+hookAt hooks e =
+    hook (getD hooks (hookSize * e) 0)
+    (getD hooks (hookSize * e + 1) 0)
+    (getD hooks (hookSize * e + 2) 0)
 
--- n hooks from e on
+-- n hooks from i on
 unfoldable pub hooksFrom : ℕ → ℕ → (ℕ → Hook) → List Hook
 hooksFrom i zero f = []
 hooksFrom i (suc n) f = f i ∷ hooksFrom (i + 1) n f

@@ -1,4 +1,5 @@
-// Readers of the hook array, and of the loaded line and pin of a function.
+// Readers of the hook array, and of the loaded line and pin of a function. They read the records
+// and not the registers, as later writes do not reroute.
 use board::handle::place;
 use board::layout::HOOK;
 use board::layout::Hooks;
@@ -18,7 +19,7 @@ const PIN: u32 = 0x3D;
 // The last line that there is.
 pub const LAST_LINE: u32 = 15;
 
-// The three numbers of an entry, zeros past the last one.
+// The three numbers of entry e; zeros where there is no entry.
 pub fn handle_at(hooks: &Hooks, e: u32) -> u32
     ensures { λ r. ⌜ r ≡ hookAt (now (hooks .entry)) e .handle ⌝ }
 {
@@ -60,7 +61,8 @@ fn pin_of(records: &Records, handle: u32) -> u32
 
 // Whether a function interrupts at all, on a line that there is.
 pub fn is_routed(records: &Records, handle: u32) -> bool
-    ensures { λ r. ⌜ r ≡ isRouted (pinOf (now (records .entry)) handle) (lineOf (now (records .entry)) handle) ⌝ }
+    ensures { λ r. ⌜ r ≡ isRouted
+        (pinOf (now (records .entry)) handle) (lineOf (now (records .entry)) handle) ⌝ }
 {
     (1 <= pin_of(records, handle)) & (line_of(records, handle) <= LAST_LINE)
 }

@@ -1,4 +1,5 @@
-// A hook comes into the array or goes out of it, and the others move.
+// A hook comes into the array or goes out of it, and the others move by one. Every number of the
+// new array is worked out from a copy of the old one, so that no order of moves has to be right.
 use board::layout::HOOK;
 use board::layout::Hooks;
 use numbers::number::u32_at;
@@ -22,7 +23,7 @@ pub enum Change {
     },
 }
 
-// A number of a hook by its position.
+// Number k of a hook.
 fn number_of(handle: u32, handler: u32, parameter: u32, k: usize) -> u32
     ensures { λ r. ⌜ r ≡ hookNumber (hook handle handler parameter) k ⌝ }
 {
@@ -35,7 +36,8 @@ fn number_of(handle: u32, handler: u32, parameter: u32, k: usize) -> u32
     parameter
 }
 
-// Number j of the array once a new hook stands at a position and those from there on have moved up by one.
+// Number j of the array once a new hook stands at a position and those from there on have moved up
+// by one.
 fn hooked_number(
     old: &Hooks,
     position: usize,
@@ -44,7 +46,8 @@ fn hooked_number(
     parameter: u32,
     j: usize,
 ) -> u32
-    ensures { λ r. ⌜ r ≡ arrayNumber (afterHook (hookAt (now (old .entry))) position (hook handle handler parameter)) j ⌝ }
+    ensures { λ r. ⌜ r ≡ arrayNumber
+        (afterHook (hookAt (now (old .entry))) position (hook handle handler parameter)) j ⌝ }
 {
     if j / HOOK < position {
         return u32_at(old, j);
@@ -55,7 +58,8 @@ fn hooked_number(
     u32_at(old, j - HOOK)
 }
 
-// Number j of the array once the hook at a position is gone and those after it have moved down by one.
+// Number j of the array once the hook at a position is gone and those after it have moved down by
+// one.
 fn unhooked_number(old: &Hooks, position: usize, j: usize) -> u32
     requires { ⌜ j ≤ functionsMax * hookSize ⌝ }
     ensures { λ r. ⌜ r ≡ arrayNumber (afterUnhook (hookAt (now (old .entry))) position) j ⌝ }
@@ -66,6 +70,7 @@ fn unhooked_number(old: &Hooks, position: usize, j: usize) -> u32
     u32_at(old, j)
 }
 
+// Number j of the array after a change.
 fn number_after(old: &Hooks, change: Change, j: usize) -> u32
     requires { ⌜ j ≤ functionsMax * hookSize ⌝ }
     ensures { λ r. ⌜ r ≡ arrayNumber (afterChange change (hookAt (now (old .entry)))) j ⌝ }
@@ -84,9 +89,11 @@ fn number_after(old: &Hooks, change: Change, j: usize) -> u32
 // The array after a change.
 fn fill(old: &Hooks, hooks: &mut [u32], change: Change)
     requires { ⌜ length (now hooks) ≡ functionsMax * hookSize ⌝ }
-    ensures { λ _. ⌜ now (hooks .exit) ≡ arrayOf (afterChange change (hookAt (now (old .entry)))) ⌝ }
+    ensures { λ _. ⌜ now (hooks .exit)
+        ≡ arrayOf (afterChange change (hookAt (now (old .entry)))) ⌝ }
 {
     let mut j = 0;
+    // Invariant: the first j numbers are those of the array after the change.
     while j < hooks.len() {
         hooks[j] = number_after(old, change, j);
         j += 1;
@@ -95,7 +102,8 @@ fn fill(old: &Hooks, hooks: &mut [u32], change: Change)
 
 // Makes a change to the array.
 pub fn apply(hooks: &mut Hooks, change: Change)
-    ensures { λ _. ⌜ now (hooks .exit) ≡ arrayOf (afterChange change (hookAt (now (hooks .entry)))) ⌝ }
+    ensures { λ _. ⌜ now (hooks .exit)
+        ≡ arrayOf (afterChange change (hookAt (now (hooks .entry)))) ⌝ }
 {
     let old = *hooks;
     fill(&old, hooks, change);

@@ -1,4 +1,5 @@
--- The entries after a hook came in or went out: those before its position stay, the others move by one.
+-- The entries after a hook came in or went out: those before its position stay, the others move by
+-- one.
 use Prim.Native.Nat.{ℕ, suc, _+_, _-_, _<_, _≤_}
 use native.Mathlib.Omega.{arith}
 use native.Mathlib.Nat.{zero-add}

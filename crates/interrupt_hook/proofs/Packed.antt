@@ -1,4 +1,5 @@
--- Laws of an array that holds hooks one after the other: its entries, chains, positions and handles, and the array after a hook and an unhook.
+-- Laws of an array that holds hooks one after the other: its entries, chains, positions and
+-- handles, and the array after a hook and an unhook.
 use Prim.Native.Nat.{ℕ, zero, suc, _+_, _*_, _-_, _/_, _<_, _≤_}
 use native.Mathlib.Omega.{arith}
 use native.Mathlib.Nat.{add-zero, zero-add}

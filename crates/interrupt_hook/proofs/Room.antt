@@ -1,4 +1,5 @@
--- Hooks of as many functions as there may be, each hooked once, are no more than those: so one that is not hooked finds room.
+-- Hooks of as many functions as there may be, each hooked once, are no more than those: so one that
+-- is not hooked finds room.
 use Prim.Native.Nat.{ℕ, zero, suc, _<_, _≤_}
 use native.Mathlib.Omega.{arith}
 use mathlib.Core.Bool.{Bool, true, false, cond}

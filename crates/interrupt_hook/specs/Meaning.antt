@@ -1,4 +1,4 @@
--- What hooking and unhooking mean, without the proofs.
+-- What hooking and unhooking mean, without the proofs: document 01, "Chains and marks".
 use Prim.Native.Nat.{ℕ, zero, suc, _*_}
 use mathlib.Core.Bool.{Bool, true, false, cond, _||_}
 use mathlib.Core.List.{List, [], _∷_, _++_}
@@ -22,7 +22,9 @@ GoesLast =
     (header records hooks : List ℕ) (handle handler parameter line : ℕ)
     → hookInterrupt header records hooks handle handler parameter .status ≡ successful
     → chainOf records (hookInterrupt header records hooks handle handler parameter .hooks) line
-    ≡ cond (eqb line (lineOf records handle)) (chainOf records hooks line ++ hook handle handler parameter ∷ []) (chainOf records hooks line)
+    ≡ cond (eqb line (lineOf records handle))
+    (chainOf records hooks line ++ hook handle handler parameter ∷ [])
+    (chainOf records hooks line)
 
 -- whether a list has a hook of a handle
 unfoldable pub isAmong : ℕ → List Hook → Bool
@@ -40,7 +42,8 @@ GoesOut =
     (header records hooks : List ℕ) (handle line : ℕ)
     → length hooks ≡ functionsMax * hookSize
     → unhookInterrupt header hooks handle .status ≡ successful
-    → chainOf records (unhookInterrupt header hooks handle .hooks) line ≡ without handle (chainOf records hooks line)
+    → chainOf records (unhookInterrupt header hooks handle .hooks) line
+    ≡ without handle (chainOf records hooks line)
 
 -- the array without hooks
 abbrev pub cleared : List ℕ
@@ -52,15 +55,18 @@ pub data HookCall : Type 0 where
   unhooking : ℕ → HookCall
 
 abbrev pub performed : List ℕ → List ℕ → List ℕ → HookCall → HookOutcome
-performed header records hooks (hooking h) = hookInterrupt header records hooks (h .handle) (h .handler) (h .parameter)
+performed header records hooks (hooking h) =
+    hookInterrupt header records hooks (h .handle) (h .handler) (h .parameter)
 performed header records hooks (unhooking handle) = unhookInterrupt header hooks handle
 
 -- the array after such calls, one after the other
 unfoldable pub arrayAfter : List ℕ → List ℕ → List ℕ → List HookCall → List ℕ
 arrayAfter header records hooks [] = hooks
-arrayAfter header records hooks (c ∷ cs) = arrayAfter header records (performed header records hooks c .hooks) cs
+arrayAfter header records hooks (c ∷ cs) =
+    arrayAfter header records (performed header records hooks c .hooks) cs
 
--- the hooks that stand after them, of all lines, in hooking order: an accepted one goes last, and goes out when it is unhooked
+-- the hooks that stand after them, of all lines, in hooking order: an accepted one goes last, and
+-- goes out when it is unhooked
 abbrev pub isDone : ℤ → Bool
 isDone (pos zero) = true
 isDone (pos (suc n)) = false
@@ -76,8 +82,10 @@ inOrder header records hooks (c ∷ cs) hs =
     let t = performed header records hooks c in
     inOrder header records (t .hooks) cs (cond (isDone (t .status .0)) (taken c hs) hs)
 
--- THE CHAIN OF A LINE, and so its listing, is the hooked functions of that line in hooking order, after any hooks and unhooks from the cleared array on
+-- THE CHAIN OF A LINE, and so its listing, is the hooked functions of that line in hooking order,
+-- after any hooks and unhooks from the cleared array on
 abbrev pub HookingOrder : Type 0
 HookingOrder =
     (header records : List ℕ) (cs : List HookCall) (line : ℕ)
-    → chainOf records (arrayAfter header records cleared cs) line ≡ chosen (onLine records line) (inOrder header records cleared cs [])
+    → chainOf records (arrayAfter header records cleared cs) line
+    ≡ chosen (onLine records line) (inOrder header records cleared cs [])

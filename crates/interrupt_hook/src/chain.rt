@@ -1,4 +1,7 @@
-// Hooking and unhooking an interrupt.
+// Hooking and unhooking an interrupt. One array holds all chains:
+//   room   a function has one hook at most, so 16 entries do for all lines
+//   order  lines ascending, and the hooks of a line together in hooking order; so the array follows
+//          from the chains, and boards with equal chains have equal arrays
 use crate::position::position_for;
 use crate::position::position_of;
 use board::handle::is_handle;
@@ -13,9 +16,15 @@ use interrupt_array::hooks::line_of;
 use interrupt_edit::change::Change;
 use interrupt_edit::change::apply;
 ghost use mathlib.Core.Path.{_≡_};
-ghost use Rattle.interrupt_hook.specs.Chain.{isFree, hookOutcome, hookInterrupt, unhookInterrupt};
+ghost use Rattle.interrupt_hook.specs.Chain.{
+  isFree,
+  hookOutcome,
+  hookInterrupt,
+  unhookInterrupt,
+};
 
-// Whether a function has no hook yet, and there is room for one more: there always is where each function has one hook at most.
+// Whether a function has no hook yet, and there is room for one more: there always is where each
+// function has one hook at most.
 fn is_free(hooks: &Hooks, handle: u32) -> bool
     ensures { λ r. ⌜ r ≡ isFree (now (hooks .entry)) handle ⌝ }
 {
@@ -33,7 +42,9 @@ pub fn hook_interrupt(
     handler: u32,
     parameter: u32,
 ) -> Status
-    ensures { λ r. ⌜ hookOutcome r (now (hooks .exit)) ≡ hookInterrupt (now (header .entry)) (now (records .entry)) (now (hooks .entry)) handle handler parameter ⌝ }
+    ensures { λ r. ⌜ hookOutcome r (now (hooks .exit))
+        ≡ hookInterrupt (now (header .entry)) (now (records .entry)) (now (hooks .entry))
+        handle handler parameter ⌝ }
 {
     if !is_handle(header, handle) {
         return Status::BAD_HANDLE;
@@ -59,7 +70,8 @@ pub fn hook_interrupt(
 
 // Takes a function's hook from its chain.
 pub fn unhook_interrupt(header: &Header, hooks: &mut Hooks, handle: u32) -> Status
-    ensures { λ r. ⌜ hookOutcome r (now (hooks .exit)) ≡ unhookInterrupt (now (header .entry)) (now (hooks .entry)) handle ⌝ }
+    ensures { λ r. ⌜ hookOutcome r (now (hooks .exit))
+        ≡ unhookInterrupt (now (header .entry)) (now (hooks .entry)) handle ⌝ }
 {
     if !is_handle(header, handle) {
         return Status::BAD_HANDLE;

@@ -1,3 +1,3 @@
-// Interrupt chains.
+// Interrupt chains: a hook comes in, or goes out.
 pub mod chain;
 mod position;

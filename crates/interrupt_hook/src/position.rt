@@ -1,4 +1,6 @@
-// Positions in the hook array: where a new hook goes, and where a function's hook stands.
+// Positions in the hook array: where a new hook goes, and where a function's hook stands. A new
+// hook goes after the last one on its line or on a line below it, so that lines stay together and
+// ascending, and it is last on its own.
 use board::layout::FUNCTIONS;
 use board::layout::Hooks;
 use board::layout::Records;
@@ -24,6 +26,7 @@ pub(crate) fn position_for(records: &Records, hooks: &Hooks, line: u32) -> u32
     ensures { λ r. ⌜ r ≡ positionFor (now (records .entry)) (now (hooks .entry)) line ⌝ }
 {
     let mut e = FUNCTIONS as u32;
+    // Invariant: the first e entries give the position that all of them give.
     while 0 < e {
         if is_up_to_line(records, hooks, e - 1, line) {
             return e;
@@ -39,6 +42,7 @@ pub(crate) fn position_of(hooks: &Hooks, handle: u32) -> u32
 {
     let most = FUNCTIONS as u32;
     let mut e = 0;
+    // Invariant: the entries from e on give the position that all of them give.
     while e < most {
         if handle_at(hooks, e) == handle {
             return e;

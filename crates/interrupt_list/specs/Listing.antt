@@ -22,9 +22,10 @@ listedHook [] index = Refused deviceNotFound
 listedHook (h ∷ hs) zero = foundHook h
 listedHook (h ∷ hs) (suc index) = listedHook hs index
 
--- -8 line above 15; -4
+-- -8 line above 15; -4 past the end
 abbrev pub chainListing : List Hook → ℕ → ℕ → ChainListing
-chainListing chain line index = cond (ltb lastLine line) (Refused generalError) (listedHook chain index)
+chainListing chain line index =
+    cond (ltb lastLine line) (Refused generalError) (listedHook chain index)
 
 -- the number of an answer, and its values: handle, handler, parameter
 abbrev pub chainNumberOf : ChainListing → ℤ
@@ -47,10 +48,12 @@ hookListedValues (h ∷ hs) zero = h .handle ∷ h .handler ∷ h .parameter ∷
 hookListedValues (h ∷ hs) (suc index) = hookListedValues hs index
 
 abbrev pub chainNumber : List Hook → ℕ → ℕ → ℤ
-chainNumber chain line index = cond (ltb lastLine line) (generalError .0) (hookListedNumber chain index)
+chainNumber chain line index =
+    cond (ltb lastLine line) (generalError .0) (hookListedNumber chain index)
 
 abbrev pub chainValues : List Hook → ℕ → ℕ → List ℕ
-chainValues chain line index = cond (ltb lastLine line) (replicate hookSize 0) (hookListedValues chain index)
+chainValues chain line index =
+    cond (ltb lastLine line) (replicate hookSize 0) (hookListedValues chain index)
 
 -- an answer is that for an index of a line's chain, and has its number and values
 pub record ListsChain (chain : List Hook) (line index : ℕ) (r : ChainListing) : Type 0 where

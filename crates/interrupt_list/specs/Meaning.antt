@@ -1,4 +1,4 @@
--- What the chain listing means, without the proof.
+-- What the chain listing means, without the proof: document 01, "Chains and marks".
 use Prim.Native.Nat.{ℕ, _≤_}
 use mathlib.Core.List.{List, _∷_, _++_}
 use mathlib.Core.Logic.{_↔_}
@@ -11,8 +11,10 @@ use Rattle.interrupt_list.specs.Listing.{foundHook, chainListing}
 
 -- the listing of a line gives the hook with so many before it, and -4 exactly past the end
 pub record HooksListed (chain : List Hook) (line : ℕ) : Type 0 where
-  pub given : (before after : List Hook) (h : Hook) → chain ≡ before ++ h ∷ after → chainListing chain line (length before) ≡ foundHook h
-  pub missing : (index : ℕ) → (chainListing chain line index ≡ Refused deviceNotFound) ↔ (length chain ≤ index)
+  pub given : (before after : List Hook) (h : Hook) → chain ≡ before ++ h ∷ after
+      → chainListing chain line (length before) ≡ foundHook h
+  pub missing : (index : ℕ) → (chainListing chain line index ≡ Refused deviceNotFound)
+      ↔ (length chain ≤ index)
 
 abbrev pub ChainListed : Type 0
 ChainListed = (chain : List Hook) (line : ℕ) → line ≤ lastLine → HooksListed chain line

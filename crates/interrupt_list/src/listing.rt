@@ -1,4 +1,5 @@
-// The listing of a line's chain.
+// The listing of a line's chain: one pass over the array of all hooks, which counts those of the
+// line. They stand there in hooking order.
 use board::layout::FUNCTIONS;
 use board::layout::Hooks;
 use board::layout::Records;
@@ -14,11 +15,13 @@ ghost use Rattle.interrupt_list.specs.Listing.{foundHook, listedHook, Li
 
 // The hook at an index of a chain, or the refusal.
 pub enum ChainListing {
+    // 0
     Found {
         handle: u32,
         handler: u32,
         parameter: u32,
     },
+    // -8: the line is above 15; -4: the index is past the end.
     Refused(Status),
 }
 
@@ -35,11 +38,13 @@ fn found(hooks: &Hooks, e: u32) -> ChainListing
 
 // The hook with so many hooks of its line before it.
 fn listed_hook(records: &Records, hooks: &Hooks, line: u32, index: u32) -> ChainListing
-    ensures { λ r. ⌜ r ≡ listedHook (chainOf (now (records .entry)) (now (hooks .entry)) line) index ⌝ }
+    ensures { λ r. ⌜ r ≡ listedHook
+        (chainOf (now (records .entry)) (now (hooks .entry)) line) index ⌝ }
 {
     let most = FUNCTIONS as u32;
     let mut before = index;
     let mut e = 0;
+    // Invariant: index `before` of the line's hooks from entry e on gives what `index` gives.
     while e < most {
         if is_on_line(records, hooks, e, line) {
             if before == 0 {
@@ -56,7 +61,8 @@ fn listed_hook(records: &Records, hooks: &Hooks, line: u32, index: u32) -> Chain
 
 // The hook at an index of a line's chain, from 0.
 pub fn list_chain(records: &Records, hooks: &Hooks, line: u32, index: u32) -> ChainListing
-    ensures { λ r. ⌜ ListsChain (chainOf (now (records .entry)) (now (hooks .entry)) line) line index r ⌝ }
+    ensures { λ r. ⌜ ListsChain
+        (chainOf (now (records .entry)) (now (hooks .entry)) line) line index r ⌝ }
 {
     if LAST_LINE < line {
         return ChainListing::Refused(Status::GENERAL_ERROR);

@@ -1,4 +1,6 @@
--- A loaded board is written: the image loads as the first one does, and is the first one where that has no notes.
+-- A loaded board is written: the image loads as the first one does, and is the first one where that
+-- has no notes. Beside its verdict a load takes only the count and the records from an image
+-- (`made`), so it is enough that the image written says the same of itself (`Says`).
 use Prim.Native.Nat.{ℕ, _+_, _*_, _-_, _^_, _<_, _≤_}
 use native.Mathlib.Omega.{arith}
 use native.Mathlib.Nat.{mod-eq-of-lt}

@@ -1,4 +1,4 @@
--- Load: document 01, "The modelled board".
+-- Load: document 01, "The modelled board" and "Load refusals".
 use Prim.Native.Nat.{ℕ, _*_}
 use mathlib.Core.Bool.{cond}
 use mathlib.Core.List.{List}
@@ -21,8 +21,10 @@ padded records = filledUp (functionsMax * recordSize) records
 -- the parts that an accepted image leaves
 abbrev pub installed : List ℕ → List ℕ → Parts
 installed image cells =
-    restarted (headerOf (countOf image)) (padded (recordsOf image)) (offsetsOf (exponent (padded (recordsOf image)))) cells
+    restarted (headerOf (countOf image)) (padded (recordsOf image))
+    (offsetsOf (exponent (padded (recordsOf image)))) cells
 
+-- what a load hands back, and the parts that it leaves
 pub record LoadOutcome : Type 0 where
   pub verdict : Verdict
   pub parts : Parts
@@ -32,7 +34,9 @@ loadOutcome v p = record { verdict = v; parts = p }
 
 -- the parts of an image where the verdict accepts it, else as they were
 abbrev pub takenIn : Verdict → Parts → List ℕ → LoadOutcome
-takenIn v p image = cond (isAccepted v) (loadOutcome v (installed image (p .cells))) (loadOutcome v p)
+takenIn v p image =
+    cond (isAccepted v) (loadOutcome v (installed image (p .cells)))
+    (loadOutcome v p)
 
 -- a refused load leaves everything as it was
 unfoldable pub load : Parts → List ℕ → LoadOutcome

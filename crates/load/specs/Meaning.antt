@@ -1,4 +1,4 @@
--- What images mean: statements alone, proved in proofs/Trip.antt.
+-- What images mean (document 01, "Board image"): statements alone, proved in proofs/Trip.antt.
 use Prim.Native.Nat.{ℕ, _<_}
 use mathlib.Core.List.{List}
 use mathlib.Core.Path.{_≡_}
@@ -14,23 +14,33 @@ use Rattle.load.specs.Load.{load}
 abbrev pub rewritten : Parts → List ℕ → List ℕ → WriterOutcome
 rewritten p image out = writeImage (load p image .parts .header) (load p image .parts .records) out
 
--- a loaded board is written, and that image loads as the first one does: on every board the same verdict and the same parts
+-- a loaded board is written, and that image loads as the first one does: on every board the same
+-- verdict and the same parts
 pub record SameBoard (p : Parts) (image out : List ℕ) : Type 0 where
   pub number : rewritten p image out .number ≡ 0
   pub loads : (q : Parts) → load q (rewritten p image out .out) ≡ load q image
 
 abbrev pub RoundTrip : Type 0
 RoundTrip =
-    (p : Parts) (image out : List ℕ) → load p image .verdict ≡ accepted → length out ≡ imageSize (countOf image)
+    (p : Parts) (image out : List ℕ)
+    → load p image .verdict ≡ accepted
+    → length out ≡ imageSize (countOf image)
     → SameBoard p image out
 
 -- an image with no notes is written back byte for byte
 abbrev pub WrittenBack : Type 0
 WrittenBack =
-    (p : Parts) (image out : List ℕ) → load p image .verdict ≡ accepted → length image ≡ imageSize (countOf image)
-    → ((i : ℕ) → byteAt image i < 256) → length out ≡ length image → rewritten p image out .out ≡ image
+    (p : Parts) (image out : List ℕ)
+    → load p image .verdict ≡ accepted
+    → length image ≡ imageSize (countOf image)
+    → ((i : ℕ) → byteAt image i < 256)
+    → length out ≡ length image
+    → rewritten p image out .out ≡ image
 
--- after a load every lent part is a function of the image alone, but for the cells past its windows
+-- of the lent parts an accepted load depends on the cells alone; all else that stood there is lost
 abbrev pub ImageAlone : Type 0
 ImageAlone =
-    (p q : Parts) (image : List ℕ) → p .cells ≡ q .cells → load p image .verdict ≡ accepted → load q image ≡ load p image
+    (p q : Parts) (image : List ℕ)
+    → p .cells ≡ q .cells
+    → load p image .verdict ≡ accepted
+    → load q image ≡ load p image

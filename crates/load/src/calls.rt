@@ -1,4 +1,6 @@
-// Load.
+// Load: an image is checked, and the board of an accepted one is made. A load is a reset from new
+// records: header, records and offsets come from the image, and all else follows as on a reset. The
+// check comes before the first store, so that a refused image leaves everything as it was.
 use crate::install::install;
 use board::layout::CellOffsets;
 use board::layout::Header;
@@ -20,8 +22,9 @@ ghost use Rattle.image_refusals.specs.Refusals.{isAccepted};
 ghost use Rattle.image_check.specs.Check.{checkedAnyLength};
 ghost use Rattle.load.specs.Load.{loadOutcome, takenIn, load, loadAnyLength};
 
-// The board of an image that a verdict accepts; else everything stays as it was. It is not public: of a verdict that the image did not earn it would have
-// to try the image again, or its contract to say what becomes of records that do not fit. Calls from outside come by `load` or `load_any_length`.
+// The board of an image that a verdict accepts; else everything stays as it was. It is not public:
+// of a verdict that the image did not earn it would have to check the image again, or its contract
+// to say what becomes of records that do not fit.
 fn take_in(
     verdict: Verdict,
     image: &[u8],
@@ -34,8 +37,15 @@ fn take_in(
     used: &mut Used,
     cells: &mut [u8],
 ) -> Verdict
-    requires { ⌜ (isAccepted verdict ≡ true → isAccepted (checkedAnyLength (now image) (length (now cells))) ≡ true) ⌝ }
-    ensures { λ r. ⌜ loadOutcome r (parts (now (header .exit)) (now (records .exit)) (now (registers .exit)) (now (windows .exit)) (now (offsets .exit)) (now (hooks .exit)) (now (used .exit)) (now (cells .exit))) ≡ takenIn verdict (parts (now (header .entry)) (now (records .entry)) (now (registers .entry)) (now (windows .entry)) (now (offsets .entry)) (now (hooks .entry)) (now (used .entry)) (now (cells .entry))) (now (image .entry)) ⌝ }
+    requires { ⌜ (isAccepted verdict ≡ true
+        → isAccepted (checkedAnyLength (now image) (length (now cells))) ≡ true) ⌝ }
+    ensures { λ r. ⌜ loadOutcome r (parts
+        (now (header .exit)) (now (records .exit)) (now (registers .exit)) (now (windows .exit))
+        (now (offsets .exit)) (now (hooks .exit)) (now (used .exit)) (now (cells .exit)))
+        ≡ takenIn verdict (parts
+        (now (header .entry)) (now (records .entry)) (now (registers .entry)) (now (windows .entry))
+        (now (offsets .entry)) (now (hooks .entry)) (now (used .entry)) (now (cells .entry)))
+        (now (image .entry)) ⌝ }
 {
     if !is_accepted(verdict) {
         return verdict;
@@ -67,7 +77,13 @@ pub fn load(
     used: &mut Used,
     cells: &mut [u8],
 ) -> Verdict
-    ensures { λ r. ⌜ loadOutcome r (parts (now (header .exit)) (now (records .exit)) (now (registers .exit)) (now (windows .exit)) (now (offsets .exit)) (now (hooks .exit)) (now (used .exit)) (now (cells .exit))) ≡ load (parts (now (header .entry)) (now (records .entry)) (now (registers .entry)) (now (windows .entry)) (now (offsets .entry)) (now (hooks .entry)) (now (used .entry)) (now (cells .entry))) (now (image .entry)) ⌝ }
+    ensures { λ r. ⌜ loadOutcome r (parts
+        (now (header .exit)) (now (records .exit)) (now (registers .exit)) (now (windows .exit))
+        (now (offsets .exit)) (now (hooks .exit)) (now (used .exit)) (now (cells .exit)))
+        ≡ load (parts
+        (now (header .entry)) (now (records .entry)) (now (registers .entry)) (now (windows .entry))
+        (now (offsets .entry)) (now (hooks .entry)) (now (used .entry)) (now (cells .entry)))
+        (now (image .entry)) ⌝ }
 {
     let verdict = check_image(image, cells.len());
     take_in(
@@ -84,7 +100,7 @@ pub fn load(
     )
 }
 
-// The same of an image that may be longer than one that is handed over at once.
+// The same without the upper length, for an image that comes in portions.
 pub fn load_any_length(
     image: &[u8],
     header: &mut Header,
@@ -96,7 +112,13 @@ pub fn load_any_length(
     used: &mut Used,
     cells: &mut [u8],
 ) -> Verdict
-    ensures { λ r. ⌜ loadOutcome r (parts (now (header .exit)) (now (records .exit)) (now (registers .exit)) (now (windows .exit)) (now (offsets .exit)) (now (hooks .exit)) (now (used .exit)) (now (cells .exit))) ≡ loadAnyLength (parts (now (header .entry)) (now (records .entry)) (now (registers .entry)) (now (windows .entry)) (now (offsets .entry)) (now (hooks .entry)) (now (used .entry)) (now (cells .entry))) (now (image .entry)) ⌝ }
+    ensures { λ r. ⌜ loadOutcome r (parts
+        (now (header .exit)) (now (records .exit)) (now (registers .exit)) (now (windows .exit))
+        (now (offsets .exit)) (now (hooks .exit)) (now (used .exit)) (now (cells .exit)))
+        ≡ loadAnyLength (parts
+        (now (header .entry)) (now (records .entry)) (now (registers .entry)) (now (windows .entry))
+        (now (offsets .entry)) (now (hooks .entry)) (now (used .entry)) (now (cells .entry)))
+        (now (image .entry)) ⌝ }
 {
     let verdict = check_any_length(image, cells.len());
     take_in(

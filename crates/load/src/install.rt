@@ -1,4 +1,4 @@
-// Header, records and offsets of an accepted image.
+// What a load takes from an accepted image: header, records and offsets.
 use board::layout::CellOffsets;
 use board::layout::FUNCTIONS;
 use board::layout::Header;
@@ -18,7 +18,8 @@ ghost use Rattle.load.specs.Steps.{Installed};
 
 // The records of an accepted image, each kept as it stands there; zeros after the last.
 fn copy_records(image: &[u8], count: u32, records: &mut Records)
-    requires { ⌜ (count ≡ countOf (now image)) × ((count ≤ functionsMax) × (imageSize count ≤ length (now image))) ⌝ }
+    requires { ⌜ (count ≡ countOf (now image))
+        × ((count ≤ functionsMax) × (imageSize count ≤ length (now image))) ⌝ }
     ensures { λ _. ⌜ now (records .exit) ≡ padded (recordsOf (now (image .entry))) ⌝ }
 {
     *records = [0u8; FUNCTIONS * RECORD];
@@ -28,14 +29,17 @@ fn copy_records(image: &[u8], count: u32, records: &mut Records)
     copy(&image[from..to], records);
 }
 
+// Header, records and offsets of an accepted image; all else follows from them.
 pub(crate) fn install(
     image: &[u8],
     header: &mut Header,
     records: &mut Records,
     offsets: &mut CellOffsets,
 )
-    requires { ⌜ (countOf (now image) ≤ functionsMax) × (imageSize (countOf (now image)) ≤ length (now image)) ⌝ }
-    ensures { λ _. ⌜ Installed (now (image .entry)) (now (header .exit)) (now (records .exit)) (now (offsets .exit)) ⌝ }
+    requires { ⌜ (countOf (now image) ≤ functionsMax)
+        × (imageSize (countOf (now image)) ≤ length (now image)) ⌝ }
+    ensures { λ _. ⌜ Installed (now (image .entry))
+        (now (header .exit)) (now (records .exit)) (now (offsets .exit)) ⌝ }
 {
     let count = trailer_of(image).count;
     *header = [count, 0, 0, 0];

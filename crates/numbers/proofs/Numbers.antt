@@ -1,4 +1,5 @@
--- Laws of the numbers of w bytes, for every w: their bound, what they depend on, their digits, and what the digits of a value make; and some of powers of two.
+-- Laws of the numbers of w bytes, for every w: their bound, what they depend on, their digits, and
+-- what the digits of a value make; and some of powers of two.
 use mathlib.Core.Path.{_≡_, refl, sym, ap, _∙_}
 use mathlib.Core.List.{List, _++_}
 use Prim.Native.Nat.{ℕ, zero, suc, _+_, _-_, _*_, _/_, _%_, _<_, _≤_, _^_}

@@ -1,4 +1,5 @@
--- Laws of signed numbers of 32 bits.
+-- Laws of signed numbers of 32 bits, which are held in two's complement: read back, tested for 0,
+-- and taken as their bits.
 use Prim.Native.Nat.{ℕ, zero, suc, _-_, _<_, _^_}
 use native.Mathlib.Omega.{arith}
 use mathlib.Core.Bool.{true, false, false≢true}

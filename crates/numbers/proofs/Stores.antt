@@ -1,4 +1,5 @@
--- Runs of stores, and a turn of the loop that stores the bytes of a value, highest first, which are the reversed value's digits, lowest first.
+-- Runs of stores, and a turn of the loop that stores the bytes of a value, highest first, which are
+-- the reversed value's digits, lowest first.
 use Prim.Native.Nat.{ℕ, suc, _+_, _-_, _/_, _%_, _^_, _<_, _≤_}
 use native.Mathlib.Nat.{add-zero}
 use native.Mathlib.Numerals.{add-one}

@@ -1,4 +1,5 @@
--- Numbers of w bytes in both byte orders. A byte f i is read modulo 256, so that the laws need no bound on it.
+-- Numbers of w bytes, least byte first (document 01, "Registers") and highest byte first ("Board
+-- image"), once for every w. A byte f i is read modulo 256, so that the laws need no bound on it.
 use Prim.Native.Nat.{ℕ, zero, suc, _+_, _*_, _-_, _/_, _%_, _^_}
 use mathlib.Core.Bool.{Bool, true, false, cond}
 use mathlib.Core.List.{List}
@@ -13,6 +14,7 @@ use Rattle.numbers.specs.declared.number.Width.the-variants.{Byte, Word,
 abbrev pub byteAt : List ℕ → ℕ → ℕ
 byteAt l i = getD l i 0
 
+-- the bytes of a width
 abbrev pub bytes : Width → ℕ
 bytes Byte = 1
 bytes Word = 2

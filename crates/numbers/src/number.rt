@@ -1,14 +1,29 @@
-// Bytes and the numbers that they make: total readers, 0 past the end, and powers of two.
+// Bytes and the numbers that they make. Every reader is total, 0 past the end, so that contracts of
+// the crates above need no bounds. A number whose highest byte comes first is the number of the
+// same bytes least first, reversed: so it is read, and so it is stored.
 ghost use mathlib.Core.Path.{_≡_};
 ghost use Prim.Native.Nat.{_+_, _*_, _%_, _^_, _<_, _≤_};
 ghost use lib.ListN.{getD, set};
 ghost use lib.Seq.{sets};
-ghost use Rattle.numbers.specs.Numbers.{byteAt, bytes, isMultiple, little, big, bigBytes, reversed, power, bits};
+ghost use Rattle.numbers.specs.Numbers.{
+  byteAt,
+  bytes,
+  isMultiple,
+  little,
+  big,
+  bigBytes,
+  reversed,
+  power,
+  bits,
+};
 
-// How many bytes an access or a number has: 1, 2 or 4.
+// How many bytes an access or a number has.
 pub enum Width {
+    // 1 byte.
     Byte,
+    // 2 bytes.
     Word,
+    // 4 bytes.
     Long,
 }
 
@@ -23,7 +38,7 @@ pub fn bytes(width: Width) -> u8
     }
 }
 
-// The power of two that the bytes of a width are.
+// The bytes of a width are 2 to this power.
 fn exponent(width: Width) -> u8
     ensures { λ r. ⌜ (2 ^ r ≡ bytes width) × (r < 3) ⌝ }
 {
@@ -34,7 +49,8 @@ fn exponent(width: Width) -> u8
     }
 }
 
-// The bytes of a width without a branch, for calls whose width changes from one to the next: a processor foresees such a branch badly.
+// The bytes of a width without a branch, for calls whose width changes from one to the next: a
+// processor foresees such a branch badly.
 pub fn bytes_by_shift(width: Width) -> u32
     ensures { λ r. ⌜ (r ≡ bytes width) × ((0 < r) × (r ≤ 4)) ⌝ }
 {
@@ -52,7 +68,8 @@ pub fn is_multiple(n: u32, width: Width) -> bool
     }
 }
 
-// The same without a branch, for data calls. Configuration calls were slower when they shared it (docs/DECISIONS.md).
+// The same without a branch, for data calls; docs/DECISIONS.md says what it would cost
+// configuration calls.
 pub fn is_multiple_by_shift(n: u32, width: Width) -> bool
     ensures { λ r. ⌜ r ≡ isMultiple n (bytes width) ⌝ }
 {
@@ -148,6 +165,7 @@ pub fn put_big(s: &mut [u8], at: usize, width: Width, value: u32)
     let w = bytes(width);
     let mut rest = reversed(value, width);
     let mut i = 0;
+    // Invariant: storing the bytes from i on, rest's digits, gives what storing all of them gives.
     while i < w {
         put_byte(s, at + i as usize, (rest % 256) as u8);
         rest = rest / 256;
@@ -162,6 +180,7 @@ pub fn u32_at(s: &[u32], at: usize) -> u32
     if at < s.len() { s[at] } else { 0 }
 }
 
+// The same of numbers of 64 bits.
 pub fn u64_at(s: &[u64], at: usize) -> u64
     ensures { λ r. ⌜ r ≡ getD (now (s .entry)) at 0 ⌝ }
 {

@@ -1,4 +1,5 @@
 -- Idle buses, and the row of the table that refuses each: document 01, "What the promises say".
+-- Each is the reference machine but for one rule, so that the row fails for that rule alone.
 use Prim.Native.Nat.{ℕ, _+_}
 use mathlib.Core.Bool.{cond}
 use mathlib.Core.List.{List, [], _∷_}
@@ -9,14 +10,48 @@ use Rattle.board.specs.Statuses.{successful, deviceNotFound}
 use Rattle.call.specs.declared.call.Call.{Call}
 use Rattle.call.specs.declared.call.Access.{Access}
 use Rattle.call.specs.declared.call.Access.the-variants.{Read, FastRead, Write}
-use Rattle.call.specs.declared.call.Call.the-variants.{Load, Reset, WriteImage, Config, Data, GetResource, HookInterrupt, UnhookInterrupt, SetCardUsed, Ask}
+use Rattle.call.specs.declared.call.Call.the-variants.{
+  Load,
+  Reset,
+  WriteImage,
+  Config,
+  Data,
+  GetResource,
+  HookInterrupt,
+  UnhookInterrupt,
+  SetCardUsed,
+  Ask,
+}
 use Rattle.call.specs.declared.call.Query.{Query}
-use Rattle.call.specs.declared.call.Query.the-variants.{FindPciDevice, FindPciClasscode, BusToCpu, CpuToBus, ListChain, GetCardUsed, SpecialCycle, GetRouting, SetInterrupt, ListWindow}
+use Rattle.call.specs.declared.call.Query.the-variants.{
+  FindPciDevice,
+  FindPciClasscode,
+  BusToCpu,
+  CpuToBus,
+  ListChain,
+  GetCardUsed,
+  SpecialCycle,
+  GetRouting,
+  SetInterrupt,
+  ListWindow,
+}
 use Rattle.call.specs.Answers.{answer, zeros, ofStatus}
 use Rattle.reference.specs.Claims.{refusals}
 use Rattle.reference.specs.Reference.{Reference, ReferenceOutcome, referenceOutcome, referenceStart}
 use Rattle.reference.specs.Run.{Request, Response, response, referenceOn}
-use Rattle.proved_cases.specs.Cases.{Case, Machine, Holds, foundHandle, cells2064, b1List, p1, p2, p6, p10, p11}
+use Rattle.proved_cases.specs.Cases.{
+  Case,
+  Machine,
+  Holds,
+  foundHandle,
+  cells2064,
+  b1List,
+  p1,
+  p2,
+  p6,
+  p10,
+  p11,
+}
 
 -- the kinds of call that an idle bus may answer in a way of its own
 pub data Kind : Type 0 where
@@ -63,8 +98,8 @@ byKind write l s w k o = w
 byKind (list n) l s w k o = k n
 byKind other l s w k o = o
 
--- a bus that follows the reference machine but for a rule: the rule is given how many writes came before, the state before the call, the call and what the
--- reference machine tells
+-- a bus that follows the reference machine but for a rule: the rule is given how many writes came
+-- before, the state before the call, the request and the reference machine's outcome
 abbrev pub Rule : Type 0
 Rule = ℕ → Reference → Request → ReferenceOutcome → ReferenceOutcome
 
@@ -72,7 +107,8 @@ unfoldable pub ruledRun : Rule → ℕ → Reference → List Request → List R
 ruledRun rule n b [] = []
 ruledRun rule n b (c ∷ cs) =
     let t = rule n b c (referenceOn b c) in
-    response (t .answer) (t .own) ∷ ruledRun rule (n + byKind (kindOf (c .call)) 0 0 1 (λ k. 0) 0) (t .reference) cs
+    response (t .answer) (t .own)
+    ∷ ruledRun rule (n + byKind (kindOf (c .call)) 0 0 1 (λ k. 0) 0) (t .reference) cs
 
 abbrev pub busUnder : Rule → Machine
 busUnder rule = ruledRun rule 0 (referenceStart cells2064)
@@ -89,23 +125,32 @@ refusesEverything n b c t =
 
 -- it gives handle 1 to every search
 abbrev pub findsHandle1 : Rule
-findsHandle1 n b c t = byKind (kindOf (c .call)) t (referenceOutcome (foundHandle 1) (t .reference) (t .own)) t (λ k. t) t
+findsHandle1 n b c t =
+    byKind (kindOf (c .call)) t (referenceOutcome (foundHandle 1) (t .reference) (t .own)) t
+    (λ k. t) t
 
--- of its writes only the first m do anything: with m 0 they do nothing, with m 1 it works once and then stands still
+-- of its writes only the first m do anything: with m 0 they do nothing, with m 1 it works once and
+-- then stands still
 abbrev pub writesUpTo : ℕ → Rule
-writesUpTo m n b c t = byKind (kindOf (c .call)) t t (cond (ltb n m) t (referenceOutcome (t .answer) b (t .own))) (λ k. t) t
+writesUpTo m n b c t =
+    byKind (kindOf (c .call)) t t (cond (ltb n m) t (referenceOutcome (t .answer) b (t .own)))
+    (λ k. t) t
 
 -- it lists m windows, however many are open
 abbrev pub lists : ℕ → Rule
 lists m n b c t =
     byKind (kindOf (c .call)) t t t
-    (λ k. referenceOutcome (cond (ltb k m) (answer (successful .0) (t .answer .values)) (ofStatus deviceNotFound)) (t .reference) (t .own)) t
+    (λ k. referenceOutcome
+    (cond (ltb k m) (answer (successful .0) (t .answer .values)) (ofStatus deviceNotFound))
+    (t .reference) (t .own))
+    t
 
 -- a row that a bus does not meet
 abbrev pub Fails : Rule → Case → Type 0
 Fails rule row = Holds (busUnder rule) row → ⊥
 
--- EVERY IDLE BUS IS REFUSED, by the rows that document 01 names; the one that stands still has met P6, with one write
+-- EVERY IDLE BUS IS REFUSED, by the rows that document 01 names; the one that stands still has met
+-- P6, with one write
 pub record IdleBuses : Type 0 where
   pub refusesEverythingP1 : Fails refusesEverything p1
   pub refusesEverythingP10 : Fails refusesEverything p10

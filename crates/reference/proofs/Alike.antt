@@ -1,4 +1,4 @@
--- Lists that are alike but for what a call may touch.
+-- For claim 3: lists that are alike but for what a call may touch.
 use Prim.Native.Nat.{ℕ, zero, suc, _+_, _-_, _<_, _≤_}
 use native.Mathlib.Omega.{arith}
 use native.Mathlib.Nat.{zero-add, add-zero}

@@ -1,4 +1,5 @@
--- Laws of lists of hooks, one after the other: which handles are among them, what is left without one, and what each of them has.
+-- For claim 2: laws of lists of hooks, one after the other. Which handles are among them, what is
+-- left without one, and what each of them has.
 use Prim.Native.Nat.{ℕ, _≤_}
 use native.Mathlib.Omega.{arith}
 use mathlib.Core.Bool.{Bool, true, false, cond, _||_, or-assoc, false≢true}

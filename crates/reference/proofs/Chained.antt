@@ -1,4 +1,5 @@
--- What the chains have in every reference state of a run: each hook stands on the line that its function was loaded with, once.
+-- For claim 2: what the chains have in every reference state of a run. Each hook stands on the line
+-- that its function was loaded with, once.
 use Prim.Native.Nat.{ℕ, zero, suc, _+_, _-_, _<_, _≤_}
 use native.Mathlib.Omega.{arith}
 use mathlib.Core.Bool.{true, false, cond, or-false, false≢true}

@@ -1,4 +1,4 @@
--- The simulation of hooks and chains.
+-- For claim 2: the simulation of hooks and chains.
 use Prim.Native.Nat.{ℕ, _-_}
 use native.Mathlib.Omega.{arith}
 use mathlib.Core.List.{List, [], _∷_, _++_}

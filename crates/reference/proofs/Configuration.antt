@@ -1,4 +1,4 @@
--- The simulation of searches and configuration calls.
+-- For claim 2: the simulation of searches and configuration calls.
 use Prim.Native.Nat.{ℕ, _<_}
 use native.Mathlib.Omega.{arith}
 use mathlib.Core.Bool.{Bool}

@@ -1,4 +1,4 @@
--- The simulation of data calls and conversions.
+-- For claim 2: the simulation of data calls and conversions.
 use Prim.Native.Nat.{ℕ, _+_, _*_, _-_, _<_}
 use native.Mathlib.Omega.{arith}
 use mathlib.Core.Bool.{Bool}

@@ -1,4 +1,5 @@
--- The array of hooks holds the chains one after the other: whether a function is hooked in it, whether it has room, the chain of a line, and the array after a hook.
+-- For claim 2: the array of hooks holds the chains one after the other. Whether a function is
+-- hooked in it, whether it has room, the chain of a line, and the array after a hook.
 use Prim.Native.Nat.{ℕ, suc, _+_, _-_, _<_, _≤_}
 use native.Mathlib.Omega.{arith}
 use mathlib.Core.Bool.{Bool, true, false, cond, not, _&&_}

@@ -1,4 +1,4 @@
--- Where an accepted access stands: in the cells of one window of its function.
+-- For claims 2 and 4: where an accepted access stands, in the cells of one window of its function.
 use Prim.Native.Nat.{ℕ, _+_, _*_, _-_, _/_, _%_, _^_, _<_, _≤_}
 use native.Mathlib.Omega.{arith}
 use native.Mathlib.Nat.{mul-left-comm}

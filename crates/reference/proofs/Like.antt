@@ -1,4 +1,5 @@
--- Reference states that differ in the cells of one function's windows alone, and in bytes past the total.
+-- For claim 4: reference states that differ in the cells of one function's windows alone, and in
+-- bytes past the total.
 use Prim.Native.Nat.{ℕ, zero, suc, _+_, _*_, _-_, _%_, _<_, _≤_}
 use native.Mathlib.Omega.{arith}
 use mathlib.Core.Logic.{_⊎_, inl, inr}

@@ -1,4 +1,4 @@
--- Chains taken line by line, and where a line stands among them.
+-- For claim 2: chains taken line by line, and where a line stands among them.
 use Prim.Native.Nat.{ℕ, zero, suc, _+_, _-_, _<_, _≤_}
 use native.Mathlib.Omega.{arith}
 use native.Mathlib.Nat.{add-zero}

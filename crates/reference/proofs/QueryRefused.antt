@@ -1,4 +1,5 @@
--- Claim 1 for queries: a refused one gives a stated number and zeros. That it touches nothing is its type's.
+-- Claim 1 for queries: a refused one gives a stated number and zeros. That it touches nothing is
+-- its type's.
 use Prim.Native.Nat.{ℕ, zero, suc}
 use mathlib.Core.Bool.{true}
 use mathlib.Core.Logic.{inl, inr}

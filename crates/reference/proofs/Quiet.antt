@@ -1,4 +1,4 @@
--- A data call through h keeps like states alike.
+-- For claim 4: a data call through h keeps like states alike.
 use Prim.Native.Nat.{ℕ}
 use mathlib.Core.Bool.{true, false≢true}
 use mathlib.Core.Path.{_≡_, refl}

@@ -1,4 +1,4 @@
--- Records one by one and as one list of bytes.
+-- For claim 2: records one by one, as the reference machine has them, and as one list of bytes.
 use Prim.Native.Nat.{ℕ, zero, suc, _+_, _*_, _<_, _≤_}
 use native.Mathlib.Omega.{arith}
 use mathlib.Core.Path.{_≡_, refl, sym, _∙_, ap}

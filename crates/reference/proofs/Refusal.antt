@@ -19,8 +19,8 @@ use Rattle.config_write.specs.Write.{writeConfig}
 use Rattle.data_cells.specs.Cells.{cellTarget}
 use Rattle.board.specs.Spaces.{spaceNumber}
 use Rattle.data_window.specs.Find.{statusOf}
-use Rattle.data_window.specs.declared.refusal.Refusal.{Refusal as DataRefusal}
-use Rattle.data_window.specs.declared.refusal.Refusal.the-variants.{BadHandle, ShortCells, NotAligned, Nothing, Contested, WidthMissing, PastBuffer}
+use Rattle.data_window.specs.declared.refusal.DataRefusal.{DataRefusal}
+use Rattle.data_window.specs.declared.refusal.DataRefusal.the-variants.{BadHandle, ShortCells, NotAligned, Nothing, Contested, WidthMissing, PastBuffer}
 use Rattle.board.specs.declared.space.Space.{Space}
 use Rattle.data_cells.specs.declared.target.CellTarget.{CellTarget}
 use Rattle.image_layout.specs.Image.{imageSize}

@@ -1,4 +1,5 @@
--- Registers, record bytes and the window list, read from the lent parts, are the reference machine's.
+-- For claim 2: registers, record bytes and the window list, read from the lent parts, are the
+-- reference machine's.
 use Prim.Native.Nat.{ℕ, _+_, _*_, _-_, _/_, _%_, _<_, _≤_}
 use native.Mathlib.Omega.{arith}
 use native.Mathlib.Nat.{min-eq-left}

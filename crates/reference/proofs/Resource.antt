@@ -1,4 +1,4 @@
--- The simulation of the resource call.
+-- For claim 2: the simulation of the resource call.
 use Prim.Native.Nat.{ℕ, zero, suc, _+_, _*_, _-_, _<_, _≤_}
 use native.Mathlib.Omega.{arith}
 use mathlib.Core.Bool.{Bool, true}

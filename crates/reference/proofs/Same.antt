@@ -1,4 +1,5 @@
--- The lent parts after a load or a reset are those of the reference machine's fresh board.
+-- For claim 2: the lent parts after a load or a reset are those of the reference machine's fresh
+-- board, and both judge an image alike.
 use Prim.Native.Nat.{ℕ, _+_, _*_, _-_, _/_, _%_, _<_, _≤_}
 use native.Mathlib.Omega.{arith}
 use native.Mathlib.Nat.{min-le-left}

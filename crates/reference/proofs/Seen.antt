@@ -1,4 +1,5 @@
--- A call that is not struck out is answered the same on like states, and leaves like states.
+-- For claim 4: a call that is not struck out is answered the same on like states, and leaves like
+-- states.
 use Prim.Native.Nat.{ℕ, _-_, _≤_}
 use mathlib.Core.Bool.{false, not}
 use mathlib.Core.Path.{_≡_, refl}

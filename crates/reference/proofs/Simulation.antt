@@ -1,4 +1,5 @@
--- One call: the program's step on the parts of a reference state is the reference machine's step.
+-- For claim 2, one call: the program's step on the parts of a reference state is the reference
+-- machine's step.
 use Prim.Native.Nat.{ℕ, _+_, _*_, _-_, _≤_}
 use native.Mathlib.Omega.{arith}
 use mathlib.Core.Path.{_≡_, refl, ap}

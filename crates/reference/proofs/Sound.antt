@@ -1,4 +1,5 @@
--- What every reference state of a run has, and what is proved of each call on its lent parts.
+-- For claim 2: what every reference state of a run has, and what is proved of each call on its lent
+-- parts.
 use Prim.Native.Nat.{ℕ, _<_, _≤_, min}
 use native.Mathlib.Nat.{min-eq-left, le-trans}
 use mathlib.Core.Bool.{true}

@@ -1,4 +1,6 @@
--- A choice taken apart: of one term, of two terms that make the same test or tests that come out alike, of a test by itself, of what a configuration access is for, and of where a data access stands.
+-- For all claims: a choice taken apart, of one term, of two terms that make the same test or tests
+-- that come out alike, of a test by itself, of what a configuration access is for, and of where a
+-- data access stands.
 use Prim.Native.Nat.{ℕ, _+_, _-_, _<_, _≤_}
 use native.Mathlib.Omega.{arith}
 use mathlib.Core.Bool.{Bool, true, false, cond, _&&_}
@@ -12,7 +14,7 @@ use Rattle.numbers.proofs.Tests.{both-true}
 use Rattle.config_read.specs.Target.{fits, target}
 use Rattle.config_read.specs.declared.target.Target.{Target}
 use Rattle.config_read.specs.declared.target.Target.the-variants.{Function, Refused}
-use Rattle.data_window.specs.declared.refusal.Refusal.{Refusal}
+use Rattle.data_window.specs.declared.refusal.DataRefusal.{DataRefusal}
 use Rattle.data_cells.specs.declared.target.CellTarget.{CellTarget}
 use Rattle.data_cells.specs.declared.target.CellTarget.the-variants.{At, Refused as NoPlace}
 
@@ -52,6 +54,6 @@ ifTarget P count w handle register f r h =
     (λ e. h)
 
 -- a data access stands at cells or is refused
-pub ifAt : {X : Type 0} (q : CellTarget) → ((at order : ℕ) → q ≡ At at order → X) → ((r : Refusal) → q ≡ NoPlace r → X) → X
+pub ifAt : {X : Type 0} (q : CellTarget) → ((at order : ℕ) → q ≡ At at order → X) → ((r : DataRefusal) → q ≡ NoPlace r → X) → X
 ifAt (At at order) f r = f at order refl
 ifAt (NoPlace r) f g = g r refl

@@ -1,4 +1,4 @@
--- The simulation of used marks.
+-- For claim 2: the simulation of used marks.
 use Prim.Native.Nat.{ℕ, _-_, _<_}
 use native.Mathlib.Omega.{arith}
 use mathlib.Core.Bool.{true}

@@ -1,4 +1,4 @@
--- The verdicts that a load can give.
+-- For claim 1: the verdicts that a load can give.
 use Prim.Native.Nat.{ℕ}
 use mathlib.Core.Bool.{false, not, _||_}
 use mathlib.Core.Logic.{inl, inr}

@@ -1,4 +1,13 @@
--- The claims about runs, without their proofs.
+-- The claims about runs, without their proofs: document 01, "Runs and the book", demand 3.
+--   1 refusal          a refused call gives a number that is stated for it and the filler, and
+--                      changes nothing; in every state, also one that no run reaches
+--   2 refinement       every run from the start is a run of the reference machine: the same
+--                      responses, and the lent parts that its state describes
+--   3 frame            what a call may not touch is equal before and after it, after every run
+--   4 noninterference  of two runs that differ in data calls through one handle alone, the
+--                      responses to all other calls are equal, and so are the boards after them
+--                      but for that function's cells and those past the total
+-- Demand3 is the four as one claim.
 use Prim.Native.Nat.{ℕ, _+_, _-_, _*_, _/_, _%_, _^_, _<_}
 use mathlib.Core.Bool.{Bool, true, false, cond, _&&_}
 use mathlib.Core.List.{List, [], _∷_}
@@ -11,7 +20,15 @@ use Rattle.board.specs.Parts.{Parts}
 use Rattle.board.specs.Layout.{bases, registersEach, markSize}
 use Rattle.numbers.specs.Numbers.{bytes}
 use Rattle.numbers.specs.declared.number.Width.{Width}
-use Rattle.board.specs.Statuses.{funcNotSupported, deviceNotFound, badRegisterNumber, bufferTooSmall, generalError, badHandle, setFailed}
+use Rattle.board.specs.Statuses.{
+  funcNotSupported,
+  deviceNotFound,
+  badRegisterNumber,
+  bufferTooSmall,
+  generalError,
+  badHandle,
+  setFailed,
+}
 use Rattle.config_write.specs.Write.{movesWindows}
 use Rattle.board.specs.Spaces.{spaceNumber}
 use Rattle.data_cells.specs.declared.target.CellTarget.{CellTarget}
@@ -24,14 +41,52 @@ use Rattle.call.specs.declared.answer.Answer.{Answer}
 use Rattle.call.specs.declared.call.Call.{Call}
 use Rattle.call.specs.declared.call.Access.{Access}
 use Rattle.call.specs.declared.call.Access.the-variants.{Read, FastRead, Write}
-use Rattle.call.specs.declared.call.Call.the-variants.{Load, Reset, WriteImage, Config, Data, GetResource, HookInterrupt, UnhookInterrupt, SetCardUsed, Ask}
+use Rattle.call.specs.declared.call.Call.the-variants.{
+  Load,
+  Reset,
+  WriteImage,
+  Config,
+  Data,
+  GetResource,
+  HookInterrupt,
+  UnhookInterrupt,
+  SetCardUsed,
+  Ask,
+}
 use Rattle.call.specs.declared.call.Query.{Query}
-use Rattle.call.specs.declared.call.Query.the-variants.{FindPciDevice, FindPciClasscode, BusToCpu, CpuToBus, ListChain, GetCardUsed, SpecialCycle, GetRouting, SetInterrupt, ListWindow}
+use Rattle.call.specs.declared.call.Query.the-variants.{
+  FindPciDevice,
+  FindPciClasscode,
+  BusToCpu,
+  CpuToBus,
+  ListChain,
+  GetCardUsed,
+  SpecialCycle,
+  GetRouting,
+  SetInterrupt,
+  ListWindow,
+}
 use Rattle.call.specs.Answers.{zeros, one}
 use Rattle.call.specs.Calls.{writes}
 use Rattle.reference.specs.State.{Outcome, step}
-use Rattle.reference.specs.Reference.{Reference, exponentOf, imageRecords, cellTargetFor, referenceStart}
-use Rattle.reference.specs.Run.{Request, Response, stepOn, responses, partsAfter, referenceResponses, referenceAfter, partsOf, start}
+use Rattle.reference.specs.Reference.{
+  Reference,
+  exponentOf,
+  imageRecords,
+  cellTargetFor,
+  referenceStart,
+}
+use Rattle.reference.specs.Run.{
+  Request,
+  Response,
+  stepOn,
+  responses,
+  partsAfter,
+  referenceResponses,
+  referenceAfter,
+  partsOf,
+  start,
+}
 
 -- 1. REFUSAL. The numbers that a data call can be refused with, in the order of the checks.
 abbrev pub dataRefusals : List ℤ
@@ -60,10 +115,12 @@ abbrev pub refusals : Call → List ℤ
 refusals Load = pos 1 ∷ pos 2 ∷ pos 3 ∷ pos 4 ∷ pos 5 ∷ pos 6 ∷ pos 7 ∷ pos 8 ∷ []
 refusals Reset = bufferTooSmall .0 ∷ []
 refusals WriteImage = pos 1 ∷ pos 3 ∷ []
-refusals (Config width handle register access) = accessRefusals access (badHandle .0 ∷ badRegisterNumber .0 ∷ [])
+refusals (Config width handle register access) =
+    accessRefusals access (badHandle .0 ∷ badRegisterNumber .0 ∷ [])
 refusals (Data space width handle address access) = accessRefusals access dataRefusals
 refusals (GetResource handle) = badHandle .0 ∷ generalError .0 ∷ bufferTooSmall .0 ∷ []
-refusals (HookInterrupt handle handler parameter) = badHandle .0 ∷ generalError .0 ∷ setFailed .0 ∷ []
+refusals (HookInterrupt handle handler parameter) =
+    badHandle .0 ∷ generalError .0 ∷ setFailed .0 ∷ []
 refusals (UnhookInterrupt handle) = badHandle .0 ∷ generalError .0 ∷ []
 refusals (SetCardUsed handle status callBack) = badHandle .0 ∷ generalError .0 ∷ []
 refusals (Ask query) = queryRefusals query
@@ -72,14 +129,17 @@ abbrev pub Among : ℤ → List ℤ → Type 0
 Among z [] = ⊥
 Among z (x ∷ l) = (z ≡ x) ⊎ Among z l
 
--- The filler: zeros, but for the place that a load returns with 6, and all ones of its width for a fast read.
+-- The filler: zeros, but for the place that a load returns with 6, and all ones of its width for a
+-- fast read.
 abbrev pub accessFiller : Width → Access → List ℕ
 accessFiller width Read = zeros
 accessFiller width FastRead = one (256 ^ bytes width - 1)
 accessFiller width (Write value) = zeros
 
 abbrev pub Filler : Call → Answer → Type 0
-Filler Load a = (a .values ≡ zeros) ⊎ ((a .number ≡ pos 6) × (a .values ≡ getD (a .values) 0 0 ∷ replicate 5 0))
+Filler Load a =
+    (a .values ≡ zeros)
+    ⊎ ((a .number ≡ pos 6) × (a .values ≡ getD (a .values) 0 0 ∷ replicate 5 0))
 Filler Reset a = a .values ≡ zeros
 Filler WriteImage a = a .values ≡ zeros
 Filler (Config width handle register access) a = a .values ≡ accessFiller width access
@@ -90,7 +150,8 @@ Filler (UnhookInterrupt handle) a = a .values ≡ zeros
 Filler (SetCardUsed handle status callBack) a = a .values ≡ zeros
 Filler (Ask query) a = a .values ≡ zeros
 
--- A refused call gives a stated number and the filler, and leaves every lent part and its own buffer as they were.
+-- A refused call gives a stated number and the filler, and leaves every lent part and its own
+-- buffer as they were.
 pub record Untouched (p : Parts) (c : Call) (lent : List ℕ) (n : Outcome) : Type 0 where
   pub number : Among (n .answer .number) (refusals c)
   pub filler : Filler c (n .answer)
@@ -99,10 +160,13 @@ pub record Untouched (p : Parts) (c : Call) (lent : List ℕ) (n : Outcome) : Ty
 
 -- In every state, also one that no run reaches.
 abbrev pub Refusal : Type 0
-Refusal = (p : Parts) (c : Call) (own : List ℕ) → step p c own .answer .refused ≡ true → Untouched p c own (step p c own)
+Refusal =
+    (p : Parts) (c : Call) (own : List ℕ) → step p c own .answer .refused ≡ true
+    → Untouched p c own (step p c own)
 
--- 2. REFINEMENT. Every run from the start, with any cells, is a run of the reference machine: every answer with its own buffer, and every lent part.
--- The kept list among the parts is the list worked out afresh.
+-- 2. REFINEMENT. Every run from the start, with any cells, is a run of the reference machine: every
+-- answer with its own buffer, and every lent part. The kept list among the parts is the list worked
+-- out afresh.
 pub record Refines (cells : List ℕ) (cs : List Request) : Type 0 where
   pub answered : responses (start cells) cs ≡ referenceResponses (referenceStart cells) cs
   pub stands : partsAfter (start cells) cs ≡ partsOf (referenceAfter (referenceStart cells) cs)
@@ -110,7 +174,8 @@ pub record Refines (cells : List ℕ) (cs : List Request) : Type 0 where
 abbrev pub Refinement : Type 0
 Refinement = (cells : List ℕ) (cs : List Request) → Refines cells cs
 
--- 3. FRAME. What a call may touch: header numbers, the records with their cell offsets, registers, the kept window list, hooks, used marks, cells, its own bytes.
+-- 3. FRAME. What a call may touch: header numbers, the records with their cell offsets, registers,
+-- the kept window list, hooks, used marks, cells, its own bytes.
 pub record Touch : Type 0 where
   pub header : ℕ → Bool
   pub records : Bool
@@ -127,14 +192,25 @@ none i = false
 abbrev pub every : ℕ → Bool
 every i = true
 
-abbrev pub touch : (ℕ → Bool) → Bool → (ℕ → Bool) → Bool → Bool → (ℕ → Bool) → (ℕ → Bool) → (ℕ → Bool) → Touch
+abbrev pub touch : (ℕ → Bool) → Bool → (ℕ → Bool) → Bool → Bool → (ℕ → Bool) → (ℕ → Bool)
+    → (ℕ → Bool) → Touch
 touch header records registers list hooks used cells own =
-    record { header = header; records = records; registers = registers; list = list; hooks = hooks; used = used; cells = cells; own = own }
+    record {
+      header = header;
+      records = records;
+      registers = registers;
+      list = list;
+      hooks = hooks;
+      used = used;
+      cells = cells;
+      own = own;
+    }
 
 -- byte j of the registers is one of the w bytes from a register of a handle on
 abbrev pub addressed : ℕ → ℕ → ℕ → ℕ → Bool
 addressed w handle register j =
-    eqb (j / registersEach + 1) handle && (leb register (j % registersEach) && ltb (j % registersEach) (register + w))
+    eqb (j / registersEach + 1) handle
+    && (leb register (j % registersEach) && ltb (j % registersEach) (register + w))
 
 -- byte j of the cell buffer is one of the w cells of an access
 abbrev pub accessed : ℕ → CellTarget → ℕ → Bool
@@ -150,19 +226,28 @@ ifWrites access t = cond (writes access) t nothing
 
 -- document 01's list, "Runs and the book"; the header's first number is the count of the records
 unfoldable pub mayTouch : Reference → Call → List ℕ → Touch
-mayTouch b Load own = touch (λ i. eqb i 0) true every true true every (λ i. ltb i (total (exponentOf (imageRecords own)))) none
-mayTouch b Reset own = touch none false every true true every (λ i. ltb i (total (exponentOf (b .records)))) none
-mayTouch b WriteImage own = touch none false none false false none none (λ i. ltb i (imageSize (length (b .records))))
+mayTouch b Load own =
+    touch (λ i. eqb i 0) true every true true every
+    (λ i. ltb i (total (exponentOf (imageRecords own)))) none
+mayTouch b Reset own =
+    touch none false every true true every (λ i. ltb i (total (exponentOf (b .records)))) none
+mayTouch b WriteImage own =
+    touch none false none false false none none (λ i. ltb i (imageSize (length (b .records))))
 mayTouch b (Config width handle register access) own =
-    ifWrites access (touch none false (addressed (bytes width) handle register) (movesWindows (bytes width) register) false none none none)
+    ifWrites access
+    (touch none false (addressed (bytes width) handle register)
+    (movesWindows (bytes width) register) false none none none)
 mayTouch b (Data space width handle address access) own =
     let target = cellTargetFor b (bytes width) (spaceNumber space) handle (address .0) in
     ifWrites access (touch none false none false false none (accessed (bytes width) target) none)
 mayTouch b (GetResource handle) own =
-    touch none false none false false none none (λ i. ltb i (size * length (windowBases (exponentOf (b .records) (handle - 1)))))
-mayTouch b (HookInterrupt handle handler parameter) own = touch none false none false true none none none
+    touch none false none false false none none
+    (λ i. ltb i (size * length (windowBases (exponentOf (b .records) (handle - 1)))))
+mayTouch b (HookInterrupt handle handler parameter) own =
+    touch none false none false true none none none
 mayTouch b (UnhookInterrupt handle) own = touch none false none false true none none none
-mayTouch b (SetCardUsed handle status callBack) own = touch none false none false false (λ j. eqb (j / markSize + 1) handle) none none
+mayTouch b (SetCardUsed handle status callBack) own =
+    touch none false none false false (λ j. eqb (j / markSize + 1) handle) none none
 mayTouch b (Ask query) own = nothing
 
 -- two lists have the same length, and the same wherever a touch is not allowed
@@ -186,8 +271,8 @@ pub record Framed (t : Touch) (p : Parts) (lent : List ℕ) (n : Outcome) : Type
 abbrev pub Frame : Type 0
 Frame =
     (cells : List ℕ) (cs : List Request) (c : Request)
-    → Framed (mayTouch (referenceAfter (referenceStart cells) cs) (c .call) (c .own)) (partsAfter (start cells) cs) (c .own)
-    (stepOn (partsAfter (start cells) cs) c)
+    → Framed (mayTouch (referenceAfter (referenceStart cells) cs) (c .call) (c .own))
+    (partsAfter (start cells) cs) (c .own) (stepOn (partsAfter (start cells) cs) c)
 
 -- 4. NONINTERFERENCE. The handle that a call goes through, and whether for data.
 pub data Through : Type 0 where
@@ -231,15 +316,19 @@ struckOut h c = isData h (through c)
 -- the calls of a run without those that are struck out, and the responses to them
 unfoldable pub withoutDataOf : ℕ → List Request → List Request
 withoutDataOf h [] = []
-withoutDataOf h (c ∷ cs) = cond (struckOut h (c .call)) (withoutDataOf h cs) (c ∷ withoutDataOf h cs)
+withoutDataOf h (c ∷ cs) =
+    cond (struckOut h (c .call)) (withoutDataOf h cs) (c ∷ withoutDataOf h cs)
 
 unfoldable pub responsesWithoutDataOf : ℕ → List Request → List Response → List Response
 responsesWithoutDataOf h [] rs = []
 responsesWithoutDataOf h (c ∷ cs) [] = []
-responsesWithoutDataOf h (c ∷ cs) (r ∷ rs) = cond (struckOut h (c .call)) (responsesWithoutDataOf h cs rs) (r ∷ responsesWithoutDataOf h cs rs)
+responsesWithoutDataOf h (c ∷ cs) (r ∷ rs) =
+    cond (struckOut h (c .call)) (responsesWithoutDataOf h cs rs)
+    (r ∷ responsesWithoutDataOf h cs rs)
 
--- two boards that no call but the data calls through h tells apart: every part but the cells, and the cells of every other function's windows; rs are the loaded records. Bytes past
--- the total are nobody's, as a load of a smaller board leaves there what stood there.
+-- two boards that no call but the data calls through h tells apart: every part but the cells, and
+-- the cells of every other function's windows; rs are the loaded records. Bytes past the total are
+-- nobody's, as a load of a smaller board leaves there what stood there.
 pub record Unseen (h : ℕ) (rs : List (List ℕ)) (p q : Parts) : Type 0 where
   pub header : p .header ≡ q .header
   pub records : p .records ≡ q .records
@@ -249,18 +338,23 @@ pub record Unseen (h : ℕ) (rs : List (List ℕ)) (p q : Parts) : Type 0 where
   pub hooks : p .hooks ≡ q .hooks
   pub used : p .used ≡ q .used
   pub room : length (p .cells) ≡ length (q .cells)
-  pub cells : (i b o : ℕ) → (i + 1 ≡ h → ⊥) → i < length rs → b < bases → o < slotCells (exponentOf rs) (bases * i + b)
+  pub cells : (i b o : ℕ) → (i + 1 ≡ h → ⊥) → i < length rs → b < bases
+      → o < slotCells (exponentOf rs) (bases * i + b)
       → getD (p .cells) (cellsBefore (exponentOf rs) (bases * i + b) + o) 0
       ≡ getD (q .cells) (cellsBefore (exponentOf rs) (bases * i + b) + o) 0
 
--- Two runs from equal cells that are equal once the data calls through h are struck out: the responses to every other call are equal, and the boards that
--- stand after them are not told apart.
+-- Two runs from equal cells that are equal once the data calls through h are struck out: the
+-- responses to every other call are equal, and the boards that stand after them are not told apart.
 pub record Apart (h : ℕ) (cells : List ℕ) (cs ds : List Request) : Type 0 where
-  pub answered : responsesWithoutDataOf h cs (responses (start cells) cs) ≡ responsesWithoutDataOf h ds (responses (start cells) ds)
-  pub unseen : Unseen h (referenceAfter (referenceStart cells) cs .records) (partsAfter (start cells) cs) (partsAfter (start cells) ds)
+  pub answered : responsesWithoutDataOf h cs (responses (start cells) cs)
+      ≡ responsesWithoutDataOf h ds (responses (start cells) ds)
+  pub unseen : Unseen h (referenceAfter (referenceStart cells) cs .records)
+      (partsAfter (start cells) cs) (partsAfter (start cells) ds)
 
 abbrev pub NonInterference : Type 0
-NonInterference = (h : ℕ) (cells : List ℕ) (cs ds : List Request) → withoutDataOf h cs ≡ withoutDataOf h ds → Apart h cells cs ds
+NonInterference =
+    (h : ℕ) (cells : List ℕ) (cs ds : List Request) → withoutDataOf h cs ≡ withoutDataOf h ds
+    → Apart h cells cs ds
 
 -- DEMAND 3, as one claim.
 pub record Demand3 : Type 0 where

@@ -1,4 +1,4 @@
--- The reference machine, the program's step, runs of both, and the claims about runs.
+-- The program's step, the reference machine, runs of both, and the claims about runs.
 pub mod State
 pub mod Reference
 pub mod Run

@@ -1,4 +1,21 @@
--- The reference machine: document 01, "Runs and the book". It is fed the cell buffer's bytes at the start, then each call's arguments, and keeps no window list.
+-- The reference machine: the book of document 01, "Runs and the book". It is fed the cell buffer's
+-- bytes at the start, then each call's arguments and own buffer, and nothing of what the program
+-- keeps.
+--
+-- It keeps the loaded records one by one, the registers by function and number, the whole cell
+-- buffer, each line's hooks in a list of their own, and the used marks.
+--
+-- It takes over from the crates below their rules on plain values, which name no lent part: what a
+-- record must be and the first refusal of an image, windows and the lengths of their cells,
+-- matches, masks, the orders of checks, byte orders, descriptors, and the numbers of answers.
+--
+-- It works out afresh what the program keeps, or holds in another form:
+--   the window list   from records and registers, at every call that needs it; kept by the program
+--   where cells are   from the lengths of all windows before; a table of offsets in the program
+--   the chains        a list for each line; one array of all hooks in the program
+--   an image          record by record; the program copies all bytes at once
+--   good handles      1 to the count of records; the program reads the count in its header
+-- Claim 2 (Claims.antt) says that the two never differ.
 use Prim.Native.Nat.{ℕ, zero, suc, _+_, _-_, _*_, _/_, _%_, _^_}
 use mathlib.Core.Bool.{Bool, cond, not, _&&_}
 use mathlib.Core.List.{List, [], _∷_, _++_}
@@ -6,7 +23,15 @@ use lib.Dec.{eqb, leb, ltb}
 use lib.IntN.{pos}
 use lib.ListN.{length, getD, take, drop, replicate}
 use Rattle.numbers.specs.Numbers.{byteAt, bytes, big}
-use Rattle.board.specs.Layout.{bases, masksAt, entriesAt, entrySize, offsetAt, dmaOffsetAt, baseRegister}
+use Rattle.board.specs.Layout.{
+  bases,
+  masksAt,
+  entriesAt,
+  entrySize,
+  offsetAt,
+  dmaOffsetAt,
+  baseRegister,
+}
 use Rattle.board.specs.Statuses.{successful, funcNotSupported, bufferTooSmall}
 use Rattle.window.specs.Window.{Window}
 use Rattle.window_list.specs.Windows.{listOf}
@@ -43,12 +68,47 @@ use Rattle.image_refusals.specs.declared.verdict.Verdict.{Verdict}
 use Rattle.call.specs.declared.answer.Answer.{Answer}
 use Rattle.call.specs.declared.call.Call.{Call}
 use Rattle.call.specs.declared.call.Access.the-variants.{Read, FastRead, Write}
-use Rattle.call.specs.declared.call.Call.the-variants.{Load, Reset, WriteImage, Config, Data, GetResource, HookInterrupt, UnhookInterrupt, SetCardUsed, Ask}
+use Rattle.call.specs.declared.call.Call.the-variants.{
+  Load,
+  Reset,
+  WriteImage,
+  Config,
+  Data,
+  GetResource,
+  HookInterrupt,
+  UnhookInterrupt,
+  SetCardUsed,
+  Ask,
+}
 use Rattle.call.specs.declared.call.Query.{Query}
-use Rattle.call.specs.declared.call.Query.the-variants.{FindPciDevice, FindPciClasscode, BusToCpu, CpuToBus, ListChain, GetCardUsed, SpecialCycle, GetRouting, SetInterrupt, ListWindow}
-use Rattle.call.specs.Answers.{answer, zeros, ofStatus, ofVerdict, ofSearch, ofRead, ofFastRead, ofToCpu, ofToBus, ofChain, ofUsed}
+use Rattle.call.specs.declared.call.Query.the-variants.{
+  FindPciDevice,
+  FindPciClasscode,
+  BusToCpu,
+  CpuToBus,
+  ListChain,
+  GetCardUsed,
+  SpecialCycle,
+  GetRouting,
+  SetInterrupt,
+  ListWindow,
+}
+use Rattle.call.specs.Answers.{
+  answer,
+  zeros,
+  ofStatus,
+  ofVerdict,
+  ofSearch,
+  ofRead,
+  ofFastRead,
+  ofToCpu,
+  ofToBus,
+  ofChain,
+  ofUsed,
+}
 
--- the loaded records one by one; registers by function and number; the whole cell buffer; each line's hooks in order; used marks by function
+-- the loaded records one by one; registers by function and number; the whole cell buffer; each
+-- line's hooks in order; used marks by function
 pub record Reference : Type 0 where
   pub records : List (List ℕ)
   pub registers : ℕ → ℕ → ℕ
@@ -56,13 +116,15 @@ pub record Reference : Type 0 where
   pub chains : ℕ → List Hook
   pub used : ℕ → Mark
 
-abbrev pub reference : List (List ℕ) → (ℕ → ℕ → ℕ) → List ℕ → (ℕ → List Hook) → (ℕ → Mark) → Reference
+abbrev pub reference : List (List ℕ) → (ℕ → ℕ → ℕ) → List ℕ → (ℕ → List Hook) → (ℕ → Mark)
+    → Reference
 reference records registers cells chains used =
     record { records = records; registers = registers; cells = cells; chains = chains; used = used }
 
 -- a board without hooks and used marks
 abbrev pub unused : List (List ℕ) → (ℕ → ℕ → ℕ) → List ℕ → Reference
-unused records registers cells = reference records registers cells (λ line. []) (λ i. record { status = 0; callBack = 0 })
+unused records registers cells =
+    reference records registers cells (λ line. []) (λ i. record { status = 0; callBack = 0 })
 
 -- the record of the function at a place; empty where there is no function
 abbrev pub recordOf : List (List ℕ) → ℕ → List ℕ
@@ -82,7 +144,9 @@ joined (r ∷ rs) = r ++ joined rs
 
 -- registers copied, the cells that the windows need zeroed, hooks and used marks cleared
 abbrev pub fresh : List (List ℕ) → List ℕ → Reference
-fresh records cells = unused records (firstRegister (λ i. byteAt (recordOf records i))) (zeroed (total (exponentOf records)) cells)
+fresh records cells =
+    unused records (firstRegister (λ i. byteAt (recordOf records i)))
+    (zeroed (total (exponentOf records)) cells)
 
 -- at the start no function
 abbrev pub referenceStart : List ℕ → Reference
@@ -99,10 +163,13 @@ imageRecords image = split (countOf image) (recordsOf image)
 
 -- the verdict on an image, its records taken one by one
 abbrev pub imageFacts : List ℕ → Facts
-imageFacts image = facts image (λ i. recordOk (recordOf (imageRecords image) i)) (exponentOf (imageRecords image))
+imageFacts image =
+    facts image (λ i. recordOk (recordOf (imageRecords image) i))
+    (exponentOf (imageRecords image))
 
 unfoldable pub imageVerdict : List ℕ → ℕ → Verdict
-imageVerdict image room = cond (ltb imageMax (length image)) (refused 1) (firstRefusal (imageFacts image) room)
+imageVerdict image room =
+    cond (ltb imageMax (length image)) (refused 1) (firstRefusal (imageFacts image) room)
 
 -- the window list, worked out afresh
 abbrev pub windowsOf : Reference → List Window
@@ -120,11 +187,14 @@ isHandleOf b handle = leb 1 handle && leb handle (length (b .records))
 abbrev pub targetOf : Reference → ℕ → ℕ → ℕ → Target
 targetOf b w handle register = target (isHandleOf b handle) w handle register
 
--- the registers after w bytes of a value are written at a register of the function at place i, little-endian: each addressed byte through its own mask
+-- the registers after w bytes of a value are written at a register of the function at place i,
+-- little-endian: each addressed byte through its own mask
 abbrev pub registersAfter : Reference → ℕ → ℕ → ℕ → ℕ → ℕ → ℕ → ℕ
 registersAfter b w i register value j at =
+    let mask = byteAt (recordOf (b .records) i) (masksAt + at) in
+    let new = value / 256 ^ (at - register) % 256 in
     cond (eqb j i && (leb register at && ltb at (register + w)))
-    (written at (byteAt (recordOf (b .records) i) (masksAt + at)) (b .registers i at) (value / 256 ^ (at - register) % 256))
+    (written at mask (b .registers i at) new)
     (b .registers j at)
 
 abbrev pub withRegistersOf : (ℕ → ℕ → ℕ) → Reference → Reference
@@ -133,14 +203,19 @@ withRegistersOf r b = reference (b .records) r (b .cells) (b .chains) (b .used)
 -- the window for a handle, in the list worked out afresh
 abbrev pub findFor : Reference → ℕ → ℕ → ℕ → ℕ → Finding
 findFor b w space handle address =
-    find (isHandleOf b handle) (ltb (length (b .cells)) (total (exponentOf (b .records))))
-    (λ base. offers w (entryField (b .records) (handle - 1) base 2)) (windowsOf b) space w handle address
+    let short = ltb (length (b .cells)) (total (exponentOf (b .records))) in
+    let offered : ℕ → Bool = λ base. offers w (entryField (b .records) (handle - 1) base 2) in
+    find (isHandleOf b handle) short offered (windowsOf b) space w handle address
 
--- the first cell of an access, and the byte order: the cells of a window follow those of all windows before it
+-- the first cell of an access, and the byte order: the cells of a window follow those of all
+-- windows before it
 unfoldable pub cellTargetAt : Reference → ℕ → ℕ → Finding → CellTarget
 cellTargetAt b w handle (Found base distance remaining) =
     let order = entryField (b .records) (handle - 1) base 1 in
-    At (cellsBefore (exponentOf (b .records)) (bases * (handle - 1) + base) + cellDistance order w distance) order
+    At
+    (cellsBefore (exponentOf (b .records)) (bases * (handle - 1) + base)
+    + cellDistance order w distance)
+    order
 cellTargetAt b w handle (NoWindow r) = NoPlace r
 
 abbrev pub cellTargetFor : Reference → ℕ → ℕ → ℕ → ℕ → CellTarget
@@ -181,11 +256,13 @@ pinFor b handle = byteAt (recordOf (b .records) (handle - 1)) 0x3D
 -- another chain on a line, another mark of the function at place i
 abbrev pub withChainOf : ℕ → List Hook → Reference → Reference
 withChainOf line chain b =
-    reference (b .records) (b .registers) (b .cells) (λ l. cond (eqb l line) chain (b .chains l)) (b .used)
+    reference (b .records) (b .registers) (b .cells)
+    (λ l. cond (eqb l line) chain (b .chains l)) (b .used)
 
 abbrev pub withMarkOf : ℕ → Mark → Reference → Reference
 withMarkOf i m b =
-    reference (b .records) (b .registers) (b .cells) (b .chains) (λ j. cond (eqb j i) m (b .used j))
+    reference (b .records) (b .registers) (b .cells)
+    (b .chains) (λ j. cond (eqb j i) m (b .used j))
 
 -- the answer, the next state, and the call's own buffer
 pub record ReferenceOutcome : Type 0 where
@@ -197,11 +274,15 @@ abbrev pub referenceOutcome : Answer → Reference → List ℕ → ReferenceOut
 referenceOutcome a b own = record { answer = a; reference = b; own = own }
 
 abbrev pub writeOf : Reference → ℕ → ℕ → ℕ → List ℕ → Target → ReferenceOutcome
-writeOf b w register value own (Function i) = referenceOutcome (ofStatus successful) (withRegistersOf (registersAfter b w i register value) b) own
+writeOf b w register value own (Function i) =
+    referenceOutcome (ofStatus successful)
+    (withRegistersOf (registersAfter b w i register value) b) own
 writeOf b w register value own (Refused s) = referenceOutcome (ofStatus s) b own
 
 abbrev pub writeDataOf : Reference → ℕ → ℕ → List ℕ → CellTarget → ReferenceOutcome
-writeDataOf b w value own (At at order) = referenceOutcome (ofStatus successful) (withCellsOf (cellsAfter order w at value (b .cells)) b) own
+writeDataOf b w value own (At at order) =
+    referenceOutcome (ofStatus successful)
+    (withCellsOf (cellsAfter order w at value (b .cells)) b) own
 writeDataOf b w value own (NoPlace r) = referenceOutcome (ofStatus (statusOf r)) b own
 
 -- the board as a query sees it: of the cells how many there are, and no byte
@@ -220,18 +301,23 @@ referenceQueried b (CpuToBus handle address) =
     ofToBus (toBus (isHandleOf b handle) (offsetOf (b .records) (handle - 1)) address)
 referenceQueried b (ListChain line index) =
     ofChain (chainNumber (b .chains line) line index) (chainValues (b .chains line) line index)
-referenceQueried b (GetCardUsed handle) = ofUsed (usedOf (isHandleOf b handle) (b .used (handle - 1)))
+referenceQueried b (GetCardUsed handle) =
+    ofUsed (usedOf (isHandleOf b handle) (b .used (handle - 1)))
 referenceQueried b (SpecialCycle bus message) = ofStatus funcNotSupported
 referenceQueried b (GetRouting handle) = ofStatus funcNotSupported
 referenceQueried b (SetInterrupt handle mode) = ofStatus funcNotSupported
-referenceQueried b (ListWindow n) = answer (listedNumber (windowsOf b) n) (listedValues (windowsOf b) n)
+referenceQueried b (ListWindow n) =
+    answer (listedNumber (windowsOf b) n) (listedValues (windowsOf b) n)
 
+-- the reference machine's step: a call on a reference state, with its own buffer
 unfoldable pub referenceStep : Reference → Call → List ℕ → ReferenceOutcome
 referenceStep b Load own =
     let v = imageVerdict own (length (b .cells)) in
-    cond (isAccepted v) (referenceOutcome (ofVerdict v) (fresh (imageRecords own) (b .cells)) own) (referenceOutcome (ofVerdict v) b own)
+    cond (isAccepted v) (referenceOutcome (ofVerdict v) (fresh (imageRecords own) (b .cells)) own)
+    (referenceOutcome (ofVerdict v) b own)
 referenceStep b Reset own =
-    cond (ltb (length (b .cells)) (total (exponentOf (b .records)))) (referenceOutcome (ofStatus bufferTooSmall) b own)
+    cond (ltb (length (b .cells)) (total (exponentOf (b .records))))
+    (referenceOutcome (ofStatus bufferTooSmall) b own)
     (referenceOutcome (ofStatus successful) (fresh (b .records) (b .cells)) own)
 referenceStep b WriteImage own =
     let n = length (b .records) in
@@ -239,17 +325,22 @@ referenceStep b WriteImage own =
     (cond (eqb n 0) (referenceOutcome (answer (pos 3) zeros) b own)
     (referenceOutcome (answer (pos 0) zeros) b (imageBytes (b .records) ++ drop (imageSize n) own)))
 referenceStep b (Config width handle register Read) own =
-    referenceOutcome (ofRead (readOf (b .registers) (bytes width) register (targetOf b (bytes width) handle register))) b own
+    let target = targetOf b (bytes width) handle register in
+    referenceOutcome (ofRead (readOf (b .registers) (bytes width) register target)) b own
 referenceStep b (Config width handle register FastRead) own =
-    referenceOutcome (ofFastRead (fastReadOf (b .registers) (bytes width) register (targetOf b (bytes width) handle register))) b own
+    let target = targetOf b (bytes width) handle register in
+    referenceOutcome (ofFastRead (fastReadOf (b .registers) (bytes width) register target)) b own
 referenceStep b (Config width handle register (Write value)) own =
     writeOf b (bytes width) register value own (targetOf b (bytes width) handle register)
 referenceStep b (Data space width handle address Read) own =
-    referenceOutcome (ofRead (readAt (bytes width) (b .cells) (cellTargetFor b (bytes width) (spaceNumber space) handle (address .0)))) b own
+    let target = cellTargetFor b (bytes width) (spaceNumber space) handle (address .0) in
+    referenceOutcome (ofRead (readAt (bytes width) (b .cells) target)) b own
 referenceStep b (Data space width handle address FastRead) own =
-    referenceOutcome (ofFastRead (fastReadAt (bytes width) (b .cells) (cellTargetFor b (bytes width) (spaceNumber space) handle (address .0)))) b own
+    let target = cellTargetFor b (bytes width) (spaceNumber space) handle (address .0) in
+    referenceOutcome (ofFastRead (fastReadAt (bytes width) (b .cells) target)) b own
 referenceStep b (Data space width handle address (Write value)) own =
-    writeDataOf b (bytes width) value own (cellTargetFor b (bytes width) (spaceNumber space) handle (address .0))
+    let target = cellTargetFor b (bytes width) (spaceNumber space) handle (address .0) in
+    writeDataOf b (bytes width) value own target
 referenceStep b (GetResource handle) own =
     let g = resource (isHandleOf b handle) (sourceFor b handle) own in
     referenceOutcome (ofStatus (g .status)) b (g .out)
@@ -257,13 +348,18 @@ referenceStep b (HookInterrupt handle handler parameter) own =
     let line = lineFor b handle in
     let chain = b .chains line in
     hookChecks (isHandleOf b handle) (isRouted (pinFor b handle) line) (not (isAmong handle chain))
-    (referenceOutcome (ofStatus successful) (withChainOf line (chain ++ hook handle handler parameter ∷ []) b) own) (λ s. referenceOutcome (ofStatus s) b own)
+    (let longer = chain ++ hook handle handler parameter ∷ [] in
+    referenceOutcome (ofStatus successful) (withChainOf line longer b) own)
+    (λ s. referenceOutcome (ofStatus s) b own)
 referenceStep b (UnhookInterrupt handle) own =
     let line = lineFor b handle in
     let chain = b .chains line in
     unhookChecks (isHandleOf b handle) (isAmong handle chain)
-    (referenceOutcome (ofStatus successful) (withChainOf line (without handle chain) b) own) (λ s. referenceOutcome (ofStatus s) b own)
+    (referenceOutcome (ofStatus successful) (withChainOf line (without handle chain) b) own)
+    (λ s. referenceOutcome (ofStatus s) b own)
 referenceStep b (SetCardUsed handle status callBack) own =
     setChecks (isHandleOf b handle) status
-    (referenceOutcome (ofStatus successful) (withMarkOf (handle - 1) (newMark status callBack) b) own) (λ s. referenceOutcome (ofStatus s) b own)
+    (let mark : Mark = newMark status callBack in
+    referenceOutcome (ofStatus successful) (withMarkOf (handle - 1) mark b) own)
+    (λ s. referenceOutcome (ofStatus s) b own)
 referenceStep b (Ask query) own = referenceOutcome (referenceQueried (blankedOf b) query) b own

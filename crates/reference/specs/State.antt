@@ -1,4 +1,6 @@
 -- What the program does: each call by the definition that its contract states, on the lent parts.
+-- `perform` of the crate dispatch is proved to do this step, so that the claims, which speak of the
+-- step, hold of the program. No rule of document 01 is said here.
 use Prim.Native.Nat.{ℕ}
 use mathlib.Core.List.{List}
 use lib.IntN.{pos}
@@ -31,10 +33,44 @@ use Rattle.call.specs.declared.answer.Answer.{Answer}
 use Rattle.call.specs.declared.call.Call.{Call}
 use Rattle.call.specs.declared.call.Access.{Access}
 use Rattle.call.specs.declared.call.Access.the-variants.{Read, FastRead, Write}
-use Rattle.call.specs.declared.call.Call.the-variants.{Load, Reset, WriteImage, Config, Data, GetResource, HookInterrupt, UnhookInterrupt, SetCardUsed, Ask}
+use Rattle.call.specs.declared.call.Call.the-variants.{
+  Load,
+  Reset,
+  WriteImage,
+  Config,
+  Data,
+  GetResource,
+  HookInterrupt,
+  UnhookInterrupt,
+  SetCardUsed,
+  Ask,
+}
 use Rattle.call.specs.declared.call.Query.{Query}
-use Rattle.call.specs.declared.call.Query.the-variants.{FindPciDevice, FindPciClasscode, BusToCpu, CpuToBus, ListChain, GetCardUsed, SpecialCycle, GetRouting, SetInterrupt, ListWindow}
-use Rattle.call.specs.Answers.{answer, zeros, ofStatus, ofVerdict, ofSearch, ofRead, ofFastRead, ofToCpu, ofToBus, ofChain, ofUsed}
+use Rattle.call.specs.declared.call.Query.the-variants.{
+  FindPciDevice,
+  FindPciClasscode,
+  BusToCpu,
+  CpuToBus,
+  ListChain,
+  GetCardUsed,
+  SpecialCycle,
+  GetRouting,
+  SetInterrupt,
+  ListWindow,
+}
+use Rattle.call.specs.Answers.{
+  answer,
+  zeros,
+  ofStatus,
+  ofVerdict,
+  ofSearch,
+  ofRead,
+  ofFastRead,
+  ofToCpu,
+  ofToBus,
+  ofChain,
+  ofUsed,
+}
 
 -- the answer, the lent parts, and the call's own buffer
 pub record Outcome : Type 0 where
@@ -66,7 +102,9 @@ queried p (GetCardUsed handle) = ofUsed (getCardUsed (p .header) (p .used) handl
 queried p (SpecialCycle bus message) = ofStatus (specialCycle bus message)
 queried p (GetRouting handle) = ofStatus (getRouting handle)
 queried p (SetInterrupt handle mode) = ofStatus (setInterrupt handle mode)
-queried p (ListWindow n) = let l = listing (unpacked (p .windows)) n in answer (listingNumber l) (listingValues l)
+queried p (ListWindow n) =
+    let l = listing (unpacked (p .windows)) n in
+    answer (listingNumber l) (listingValues l)
 
 -- a configuration access leaves registers and the kept list
 pub record ConfigOutcome : Type 0 where
@@ -79,9 +117,11 @@ configOutcome a registers windows = record { answer = a; registers = registers; 
 
 abbrev pub configAccess : List ℕ → List ℕ → List ℕ → List ℕ → Width → ℕ → ℕ → Access → ConfigOutcome
 configAccess header records registers windows width handle register Read =
-    configOutcome (ofRead (readConfig (bytes width) header registers handle register)) registers windows
+    configOutcome (ofRead (readConfig (bytes width) header registers handle register))
+    registers windows
 configAccess header records registers windows width handle register FastRead =
-    configOutcome (ofFastRead (fastReadConfig (bytes width) header registers handle register)) registers windows
+    configOutcome (ofFastRead (fastReadConfig (bytes width) header registers handle register))
+    registers windows
 configAccess header records registers windows width handle register (Write value) =
     let w = writeConfig (bytes width) header records registers windows handle register value in
     configOutcome (ofStatus (w .status)) (w .registers) (w .windows)
@@ -94,24 +134,37 @@ pub record DataOutcome : Type 0 where
 abbrev pub dataOutcome : Answer → List ℕ → DataOutcome
 dataOutcome a cells = record { answer = a; cells = cells }
 
-abbrev pub dataAccess : List ℕ → List ℕ → List ℕ → List ℕ → List ℕ → Space → Width → ℕ → BusAddress → Access → DataOutcome
+abbrev pub dataAccess : List ℕ → List ℕ → List ℕ → List ℕ → List ℕ
+    → Space → Width → ℕ → BusAddress → Access → DataOutcome
 dataAccess header records windows offsets cells space width handle address Read =
-    dataOutcome (ofRead (readData (bytes width) header records windows offsets cells (spaceNumber space) handle (address .0))) cells
+    dataOutcome
+    (ofRead (readData (bytes width) header records windows offsets cells
+    (spaceNumber space) handle (address .0)))
+    cells
 dataAccess header records windows offsets cells space width handle address FastRead =
-    dataOutcome (ofFastRead (fastReadData (bytes width) header records windows offsets cells (spaceNumber space) handle (address .0))) cells
+    dataOutcome
+    (ofFastRead (fastReadData (bytes width) header records windows offsets cells
+    (spaceNumber space) handle (address .0)))
+    cells
 dataAccess header records windows offsets cells space width handle address (Write value) =
-    let w = writeData (bytes width) header records windows offsets cells (spaceNumber space) handle (address .0) value in
+    let w = writeData (bytes width) header records windows offsets cells (spaceNumber space) handle
+    (address .0) value in
     dataOutcome (ofStatus (w .status)) (w .cells)
 
+-- the program's step: a call on the lent parts, with its own buffer
 unfoldable pub step : Parts → Call → List ℕ → Outcome
 step p Load own = let w = load p own in outcome (ofVerdict (w .verdict)) (w .parts) own
 step p Reset own = let w = reset p in outcome (ofStatus (w .status)) (w .parts) own
-step p WriteImage own = let w = writeImage (p .header) (p .records) own in outcome (answer (pos (w .number)) zeros) p (w .out)
+step p WriteImage own =
+    let w = writeImage (p .header) (p .records) own in
+    outcome (answer (pos (w .number)) zeros) p (w .out)
 step p (Config width handle register access) own =
-    let w = configAccess (p .header) (p .records) (p .registers) (p .windows) width handle register access in
+    let w = configAccess (p .header) (p .records) (p .registers) (p .windows)
+    width handle register access in
     outcome (w .answer) (withRegisters (w .registers) (w .windows) p) own
 step p (Data space width handle address access) own =
-    let w = dataAccess (p .header) (p .records) (p .windows) (p .cellOffsets) (p .cells) space width handle address access in
+    let w = dataAccess (p .header) (p .records) (p .windows) (p .cellOffsets) (p .cells)
+    space width handle address access in
     outcome (w .answer) (withCells (w .cells) p) own
 step p (GetResource handle) own =
     let g = getResource (p .header) (p .records) (p .registers) (p .windows) handle own in

@@ -1,4 +1,5 @@
-// The calls of a trace, one by one.
+// The calls of a trace, one by one: each is read into one room, performed there as the front of a
+// script, and printed.
 use crate::forms::CALLS;
 use crate::forms::MALFORMED;
 use crate::forms::OWN_ABOVE;
@@ -33,10 +34,11 @@ ghost use lib.ListN.{length};
 // The longest own buffer of a call in a trace.
 const OWN: usize = 65537;
 
-// A header as it was request.
+// A header as it was read: in the room the answer is written over it.
 type RequestHeader = [u8; CALL_HEADER];
 
-// Reads the own buffer of the call whose header stands in the room. Gives the line that is printed where the call is none, else 0.
+// Reads the own buffer of the call whose header stands in the room. Gives the line that is printed
+// where the call is none, else 0.
 fn read_own(room: &mut [u8], own: u32) -> u32
     requires { ⌜ 65601 ≡ length (now room) ⌝ }
 {
@@ -76,7 +78,8 @@ fn print_call(request: &RequestHeader, call: &[u8]) {
     print(line_of(request, call), own as u64, request, call);
 }
 
-// Prints the last line: with the calls where the script ended, else with the position where the replay stops.
+// Prints the last line: with the calls where the script ended, else with the position where the
+// replay stops.
 fn print_end(line: u32, calls: u64, at: u64) {
     if line == CALLS {
         print(line, calls, b"", b"");
@@ -85,8 +88,9 @@ fn print_end(line: u32, calls: u64, at: u64) {
     }
 }
 
-// Performs and prints the calls up to the end of the input, from the board before the first load. A proved loop has to end, and nothing says that the input does: so it counts
-// calls up to a number that no trace reaches.
+// Performs and prints the calls up to the end of the input, from the board before the first load. A
+// proved loop has to end, and nothing says that the input does: so it counts calls up to a number
+// that no trace reaches.
 pub(crate) fn replay(cells: &mut [u8]) {
     let mut request: RequestHeader = [0u8; CALL_HEADER];
     let mut room = [0u8; CALL_HEADER + OWN];
@@ -99,6 +103,7 @@ pub(crate) fn replay(cells: &mut [u8]) {
     let mut used: Used = [0u32; MARK * FUNCTIONS];
     let mut calls: u64 = 0;
     let mut at: u64 = 0;
+    // Invariant: the room and the cells keep their lengths.
     while calls < u64::MAX {
         let line = read_call(&mut request, &mut room);
         if line != 0 {

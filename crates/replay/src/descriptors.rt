@@ -23,10 +23,12 @@ fn fields(d: Descriptor) {
     hexadecimal(d.dmaoffset, 4);
 }
 
-// The descriptors from a position on, up to the last mark; a function has no more of them than base registers.
+// The descriptors from a position on, up to the last mark; a function has no more of them than base
+// registers.
 pub(crate) fn descriptors(bytes: &[u8], from: usize) {
     let mut at = from;
     let mut n = 0;
+    // Invariant: n is at most 6.
     while n < BASES {
         let Step::Found {
             descriptor,

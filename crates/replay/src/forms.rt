@@ -1,4 +1,7 @@
-// What is printed: a line of one table, in which capital letters stand for numbers.
+// What is printed: a line of one table, in which capital letters stand for numbers. The forms stand
+// there as they come out, so that the program is read beside its output, and one loop fills them
+// all. A call has a line for each width and space, a listed window one for each space and mark;
+// `line_of` works out which, by operation. The first line is empty, as operations count from 1.
 use crate::descriptors::descriptors;
 use crate::print::decimal;
 use crate::print::hexadecimal;
@@ -24,8 +27,9 @@ pub(crate) const MALFORMED: u32 = 53;
 
 pub(crate) const CALLS: u32 = 54;
 
-// The position of a letter's number. Before N it is an argument, in the header of the call (docs/SCRIPT.md): a (A, C, E), b (B, D, F), H the handle. After N it is a value of the
-// answer, which has no more than 32 bits: value 0 (P, Q, R), 1 (S), 2 (T), 3 (U), 4 (V).
+// The position of a letter's number. Before N it is an argument, in the header of the call
+// (docs/SCRIPT.md): a (A, C, E), b (B, D, F), H the handle. After N it is a value of the answer,
+// which has no more than 32 bits: value 0 (P, Q, R), 1 (S), 2 (T), 3 (U), 4 (V).
 fn position(letter: u8) -> usize {
     match letter {
         b'H' => 4,
@@ -38,7 +42,8 @@ fn position(letter: u8) -> usize {
     }
 }
 
-// The bytes that a letter's number is shown with, in hexadecimal; 0 for a decimal one. E, F and P are of the call's width.
+// The bytes that a letter's number is shown with, in hexadecimal; 0 for a decimal one. E, F and P
+// are of the call's width.
 fn size(letter: u8, width: u8) -> u8 {
     match letter {
         b'A' | b'B' | b'Q' | b'S' | b'T' => 4,
@@ -67,7 +72,8 @@ fn number(call: &[u8]) {
     }
 }
 
-// Prints what a letter stands for: beside the positions above, I is the register or bus, N a number that is handed over, W descriptors, X and Y the answer's number.
+// Prints what a letter stands for: beside the positions above, I is the register or bus, N a number
+// that is handed over, W descriptors, X and Y the answer's number.
 fn put(letter: u8, n: u64, request: &[u8], call: &[u8]) {
     let size = size(letter, byte_at(request, 1));
     match letter {
@@ -81,7 +87,8 @@ fn put(letter: u8, n: u64, request: &[u8], call: &[u8]) {
     }
 }
 
-// Whether a form ends after a letter: at its line end; after X where the call was refused; after Y where it was not refused with 6; after Z where it was not refused.
+// Whether a form ends after a letter: at its line end; after X where the call was refused; after Y
+// where it was not refused with 6; after Z where it was not refused.
 fn ends(letter: u8, call: &[u8]) -> bool {
     let refused = byte_at(call, 4) != 0;
     match letter {
@@ -98,6 +105,7 @@ fn fill(forms: &[u8], line: u32, n: u64, request: &[u8], call: &[u8]) {
     let mut before = line;
     let mut from = 0;
     let mut i = 0;
+    // Invariant: from is at most i, and i at most the table's length.
     while i < forms.len() {
         let letter = forms[i];
         if (letter != b'\n') & ((0 < before) | (letter < b'A') | (b'Z' < letter)) {
@@ -118,7 +126,8 @@ fn fill(forms: &[u8], line: u32, n: u64, request: &[u8], call: &[u8]) {
     }
 }
 
-// Prints a line of the table with a number, a call's header as it was read, and the call as it was answered.
+// Prints a line of the table with a number, a call's header as it was read, and the call as it was
+// answered.
 pub(crate) fn print(line: u32, n: u64, request: &[u8], call: &[u8]) {
     let forms = b"
 load(N bytes) = Y, record R
@@ -180,7 +189,8 @@ N calls
     text(b"\n");
 }
 
-// The line of a call that was answered: by its operation, width and space; of a listed window by its space and mark.
+// The line of a call that was answered: by its operation, width and space; of a listed window by
+// its space and mark.
 pub(crate) fn line_of(request: &[u8], call: &[u8]) -> u32 {
     let operation = wide(byte_at(request, 0));
     let width = wide(byte_at(request, 1)) / 2;

@@ -1,4 +1,5 @@
-// Replays the trace that stands on standard input (docs/TRACE.md): performs its calls and prints each with its arguments and its answer, as a system-call tracer does.
+// Replays the trace that stands on standard input (docs/TRACE.md): performs its calls and prints
+// each with its arguments and its answer, as a system-call tracer does.
 mod calls;
 mod descriptors;
 mod forms;

@@ -1,4 +1,4 @@
-// Reset.
+// Reset: the cells are tested, then the board is restarted from its loaded records.
 use crate::restart::restart;
 use board::layout::CellOffsets;
 use board::layout::Header;
@@ -25,7 +25,12 @@ pub fn reset(
     used: &mut Used,
     cells: &mut [u8],
 ) -> Status
-    ensures { λ r. ⌜ resetOutcome r (parts (now (header .entry)) (now (records .entry)) (now (registers .exit)) (now (windows .exit)) (now (offsets .entry)) (now (hooks .exit)) (now (used .exit)) (now (cells .exit))) ≡ reset (parts (now (header .entry)) (now (records .entry)) (now (registers .entry)) (now (windows .entry)) (now (offsets .entry)) (now (hooks .entry)) (now (used .entry)) (now (cells .entry))) ⌝ }
+    ensures { λ r. ⌜ resetOutcome r (parts
+        (now (header .entry)) (now (records .entry)) (now (registers .exit)) (now (windows .exit))
+        (now (offsets .entry)) (now (hooks .exit)) (now (used .exit)) (now (cells .exit)))
+        ≡ reset (parts
+        (now (header .entry)) (now (records .entry)) (now (registers .entry)) (now (windows .entry))
+        (now (offsets .entry)) (now (hooks .entry)) (now (used .entry)) (now (cells .entry))) ⌝ }
 {
     if cells.len() < u32_at(offsets, WINDOWS) as usize {
         return Status::BUFFER_TOO_SMALL;

@@ -1,4 +1,4 @@
--- What descriptors mean, without the proofs.
+-- What descriptors mean, without the proofs: document 01, "Descriptors".
 use Prim.Native.Nat.{ℕ, suc, _*_, _<_, _≤_}
 use mathlib.Core.Bool.{Bool, true}
 use mathlib.Core.List.{List}
@@ -10,23 +10,36 @@ use Rattle.board.specs.Layout.{bases}
 use Rattle.numbers.specs.Numbers.{byteAt}
 use Rattle.board.specs.Statuses.{successful}
 use Rattle.resource_descriptor.specs.Descriptor.{size, descriptorAt, isLast}
-use Rattle.resource.specs.Resource.{Source, windowBases, descriptorOf, resource, sourceOf, getResource}
+use Rattle.resource.specs.Resource.{
+  Source,
+  windowBases,
+  descriptorOf,
+  resource,
+  sourceOf,
+  getResource,
+}
 
--- of a buffer before and after: the j-th window's base register has its descriptor, all six fields, at 20 j, marked exactly if it is the last; the rest stays
+-- of a buffer before and after: the j-th window's base register has its descriptor, all six fields,
+-- at 20 j, marked exactly if it is the last; the rest stays
 pub record Shows (s : Source) (before after : List ℕ) : Type 0 where
   pub fields : (j : ℕ) → j < length (windowBases (s .exponent))
-      → descriptorAt after (size * j) ≡ descriptorOf s (eqb (suc j) (length (windowBases (s .exponent)))) (getD (windowBases (s .exponent)) j 0)
+      → descriptorAt after (size * j)
+      ≡ descriptorOf s (eqb (suc j) (length (windowBases (s .exponent))))
+      (getD (windowBases (s .exponent)) j 0)
   pub last : (j : ℕ) → j < length (windowBases (s .exponent))
-      → (isLast (descriptorAt after (size * j)) ≡ true) ↔ (suc j ≡ length (windowBases (s .exponent)))
+      → (isLast (descriptorAt after (size * j)) ≡ true)
+      ↔ (suc j ≡ length (windowBases (s .exponent)))
   pub room : length after ≡ length before
-  pub rest : (i : ℕ) → size * length (windowBases (s .exponent)) ≤ i → byteAt after i ≡ byteAt before i
+  pub rest : (i : ℕ) → size * length (windowBases (s .exponent)) ≤ i
+      → byteAt after i ≡ byteAt before i
 
 -- what an accepted call leaves
 abbrev pub ResourceShows : Type 0
 ResourceShows =
     (header records registers windows : List ℕ) (handle : ℕ) (out : List ℕ)
     → getResource header records registers windows handle out .status ≡ successful
-    → Shows (sourceOf records registers windows handle) out (getResource header records registers windows handle out .out)
+    → Shows (sourceOf records registers windows handle) out
+    (getResource header records registers windows handle out .out)
 
 -- two functions of equal handle, windows and offsets whose base registers are alike
 pub record SameSource (s t : Source) : Type 0 where
@@ -41,4 +54,6 @@ pub record SameSource (s t : Source) : Type 0 where
 
 -- have equal descriptors: base registers past the six play no part
 abbrev pub ResourceDependsOn : Type 0
-ResourceDependsOn = (good : Bool) (s t : Source) (out : List ℕ) → SameSource s t → resource good s out ≡ resource good t out
+ResourceDependsOn =
+    (good : Bool) (s t : Source) (out : List ℕ) → SameSource s t
+    → resource good s out ≡ resource good t out

@@ -1,4 +1,5 @@
--- The descriptors of a function's windows: document 01, "Descriptors" and "Numbers handed back", Resource.
+-- The descriptors of a function's windows: document 01, "Descriptors" and "Numbers handed back",
+-- Resource.
 use Prim.Native.Nat.{ℕ, zero, suc, _+_, _-_, _*_, _^_}
 use mathlib.Core.Bool.{Bool, cond}
 use mathlib.Core.List.{List, [], _∷_}
@@ -6,7 +7,16 @@ use lib.Dec.{eqb, ltb}
 use lib.ListN.{length}
 use lib.Seq.{sets}
 use Rattle.board.specs.Handles.{isHandle}
-use Rattle.board.specs.Layout.{bases, exponent, byteOrder, widths, offset, dmaOffset, registerByte, baseRegister}
+use Rattle.board.specs.Layout.{
+  bases,
+  exponent,
+  byteOrder,
+  widths,
+  offset,
+  dmaOffset,
+  registerByte,
+  baseRegister,
+}
 use Rattle.board.specs.Statuses.{successful, bufferTooSmall, generalError, badHandle}
 use Rattle.board.specs.declared.status.Status.{Status}
 use Rattle.window.specs.Kept.{unpacked}
@@ -18,12 +28,15 @@ use Rattle.resource_descriptor.specs.Descriptor.{size, flags, descriptorsBytes}
 -- of n base registers from b on, those that have a window; k is their length exponent
 unfoldable pub windowsFrom : (ℕ → ℕ) → ℕ → ℕ → List ℕ
 windowsFrom k zero b = []
-windowsFrom k (suc n) b = cond (isWindow (k b)) (b ∷ windowsFrom k n (b + 1)) (windowsFrom k n (b + 1))
+windowsFrom k (suc n) b =
+    cond (isWindow (k b)) (b ∷ windowsFrom k n (b + 1)) (windowsFrom k n (b + 1))
 
 abbrev pub windowBases : (ℕ → ℕ) → List ℕ
 windowBases k = windowsFrom k bases 0
 
--- what a function's descriptors are made of: its handle, the window list, and by base register the length exponent, byte order, widths and current value
+-- what a function's descriptors are made of: its handle, the window list, by base register the
+-- length exponent, byte order, widths and current value, and both offsets. The lent parts give one,
+-- and so does the reference machine, so that both are under one rule
 pub record Source : Type 0 where
   pub handle : ℕ
   pub windows : List Window
@@ -68,7 +81,8 @@ resource good s out =
     let n = length (windowBases (s .exponent)) in
     cond good
     (cond (eqb n 0) (resourceOutcome generalError out)
-    (cond (ltb (length out) (size * n)) (resourceOutcome bufferTooSmall out) (resourceOutcome successful (sets out 0 (descriptorsBytes (descriptors s))))))
+    (cond (ltb (length out) (size * n)) (resourceOutcome bufferTooSmall out)
+    (resourceOutcome successful (sets out 0 (descriptorsBytes (descriptors s))))))
     (resourceOutcome badHandle out)
 
 -- of the lent parts

@@ -1,4 +1,6 @@
-// The descriptors of a function's windows, in base register order.
+// The descriptors of a function's windows, in base register order, in two passes over its base
+// registers: the count comes first, as a buffer that is too short stays as it was, and as the last
+// descriptor is marked.
 use board::handle::is_handle;
 use board::handle::place;
 use board::layout::BASES;
@@ -29,7 +31,14 @@ ghost use Prim.Native.Nat.{_-_};
 ghost use Rattle.board.specs.Layout.{exponent};
 ghost use Rattle.window.specs.Window.{isWindow};
 ghost use Rattle.resource_descriptor.specs.Descriptor.{descriptorsBytes};
-ghost use Rattle.resource.specs.Resource.{windowBases, descriptorOf, descriptors, sourceOf, resourceOutcome, getResource};
+ghost use Rattle.resource.specs.Resource.{
+  windowBases,
+  descriptorOf,
+  descriptors,
+  sourceOf,
+  resourceOutcome,
+  getResource,
+};
 
 // How many windows a function has.
 fn window_count(records: &Records, function: u32) -> usize
@@ -37,6 +46,7 @@ fn window_count(records: &Records, function: u32) -> usize
 {
     let mut n = 0;
     let mut b = 0;
+    // Invariant: n is at most b, and n and the windows from b on count all windows.
     while b < BASES as u8 {
         let k = exponent(records, function, b);
         b += 1;
@@ -58,7 +68,9 @@ fn descriptor_of(
     base: u8,
 ) -> Descriptor
     requires { ⌜ isWindow (exponent (now records) (handle - 1) base) ≡ true ⌝ }
-    ensures { λ r. ⌜ r ≡ descriptorOf (sourceOf (now (records .entry)) (now (registers .entry)) (now (windows .entry)) handle) last base ⌝ }
+    ensures { λ r. ⌜ r ≡ descriptorOf
+        (sourceOf (now (records .entry)) (now (registers .entry)) (now (windows .entry)) handle)
+        last base ⌝ }
 {
     let function = place(handle);
     let start = start_in(windows, handle, base);
@@ -88,11 +100,14 @@ fn put_all(
     out: &mut [u8],
 )
     requires { ⌜ count ≡ length (windowBases (exponent (now records) (handle - 1))) ⌝ }
-    ensures { λ _. ⌜ now (out .exit) ≡ sets (now (out .entry)) 0 (descriptorsBytes (descriptors (sourceOf (now (records .entry)) (now (registers .entry)) (now (windows .entry)) handle))) ⌝ }
+    ensures { λ _. ⌜ now (out .exit)
+        ≡ sets (now (out .entry)) 0 (descriptorsBytes (descriptors (sourceOf
+        (now (records .entry)) (now (registers .entry)) (now (windows .entry)) handle))) ⌝ }
 {
     let function = place(handle);
     let mut n = 0;
     let mut b = 0;
+    // Invariant: count - n windows are left from b on; their descriptors at 20 n make the whole.
     while b < BASES as u8 {
         let base = b;
         b += 1;
@@ -114,7 +129,10 @@ pub fn get_resource(
     handle: u32,
     out: &mut [u8],
 ) -> Status
-    ensures { λ r. ⌜ resourceOutcome r (now (out .exit)) ≡ getResource (now (header .entry)) (now (records .entry)) (now (registers .entry)) (now (windows .entry)) handle (now (out .entry)) ⌝ }
+    ensures { λ r. ⌜ resourceOutcome r (now (out .exit))
+        ≡ getResource
+        (now (header .entry)) (now (records .entry)) (now (registers .entry)) (now (windows .entry))
+        handle (now (out .entry)) ⌝ }
 {
     let good = is_handle(header, handle);
     let count = window_count(records, place(handle));

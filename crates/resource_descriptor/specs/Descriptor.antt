@@ -16,12 +16,17 @@ shownOrder order = cond (eqb order 1 || (eqb order 2 || eqb order 15)) order 0
 
 -- 8000h last, 4000h I/O, 0100h, 0200h, 0400h widths by their bits 0 to 2, order in bits 3..0
 abbrev pub flags : Bool → Bool → ℕ → ℕ → ℕ
-flags last io widths order = cond last 0x8000 0 + (cond io 0x4000 0 + (0x0100 * (widths % 8) + shownOrder order))
+flags last io widths order =
+    cond last 0x8000 0 + (cond io 0x4000 0 + (0x0100 * (widths % 8) + shownOrder order))
 
 -- its bytes: the fields one after the other, big-endian
 unfoldable pub descriptorBytes : Descriptor → List ℕ
 descriptorBytes d =
-    bigBytes 2 (d .next) ++ (bigBytes 2 (d .flags) ++ (bigBytes 4 (d .start) ++ (bigBytes 4 (d .length) ++ (bigBytes 4 (d .offset) ++ bigBytes 4 (d .dmaoffset)))))
+    bigBytes 2 (d .next)
+    ++ (bigBytes 2 (d .flags)
+    ++ (bigBytes 4 (d .start)
+    ++ (bigBytes 4 (d .length)
+    ++ (bigBytes 4 (d .offset) ++ bigBytes 4 (d .dmaoffset)))))
 
 unfoldable pub descriptorsBytes : List Descriptor → List ℕ
 descriptorsBytes [] = []

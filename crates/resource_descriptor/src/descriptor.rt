@@ -12,7 +12,8 @@ pub const SIZE: usize = 20;
 
 pub const NEXT: u16 = SIZE as u16;
 
-// The mark of the last descriptor, and of a window in the I/O space; what one unit of the widths is worth.
+// The mark of the last descriptor, and of a window in the I/O space; what one unit of the widths
+// counts in the flags.
 pub const LAST: u16 = 0x8000;
 
 const IO: u16 = 0x4000;

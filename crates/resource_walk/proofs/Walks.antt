@@ -1,4 +1,5 @@
--- A walk through descriptor bytes: it ends, it is its steps one after the other, and through descriptors as written it hands them back.
+-- A walk through descriptor bytes: it ends, it is its steps one after the other, and through
+-- descriptors as written it hands them back.
 use Prim.Native.Nat.{ℕ, zero, suc, _+_, _-_, _*_, _<_, _≤_}
 use native.Mathlib.Omega.{arith}
 use mathlib.Core.Bool.{Bool, true, false, not, _&&_, cond, true≢false}

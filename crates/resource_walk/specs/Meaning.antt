@@ -1,4 +1,4 @@
--- What a walk through descriptors means, without the proofs.
+-- What a walk through descriptors means, without the proofs: document 01, "Descriptors".
 use Prim.Native.Nat.{ℕ, _-_, _*_, _≤_}
 use mathlib.Core.List.{List}
 use mathlib.Core.Path.{_≡_}
@@ -9,7 +9,8 @@ use Rattle.resource.specs.Resource.{descriptors, sourceOf, getResource}
 use Rattle.resource_walk.specs.declared.step.Step.the-variants.{Ended}
 use Rattle.resource_walk.specs.Walk.{stepAt, handed, walk, stands}
 
--- a walk from a position: it is its first step and the walk from there; it ends, as each step passes 20 bytes or more; n steps on it has the rest to hand back, and none once it has ended
+-- a walk from a position: it is its first step and the walk from there; it ends, as each step
+-- passes 20 bytes or more; n steps on it has the rest to hand back, and none once it has ended
 pub record Walks (bytes : List ℕ) (at : ℕ) : Type 0 where
   pub steps : walk bytes at ≡ handed (stepAt bytes at) (walk bytes)
   pub few : size * length (walk bytes at) ≤ length bytes - at
@@ -24,4 +25,5 @@ abbrev pub WalkBack : Type 0
 WalkBack =
     (header records registers windows : List ℕ) (handle : ℕ) (out : List ℕ)
     → getResource header records registers windows handle out .status ≡ successful
-    → walk (getResource header records registers windows handle out .out) 0 ≡ descriptors (sourceOf records registers windows handle)
+    → walk (getResource header records registers windows handle out .out) 0
+    ≡ descriptors (sourceOf records registers windows handle)

@@ -1,4 +1,5 @@
--- A walk through descriptor bytes: document 01, "Descriptors", last sentence.
+-- A walk through descriptor bytes: document 01, "Descriptors", last sentence. The bytes may be
+-- anyone's. A walk through any of them ends, as each step passes 20 bytes or more.
 use Prim.Native.Nat.{ℕ, zero, suc, _+_}
 use mathlib.Core.Bool.{Bool, cond, not, _&&_}
 use mathlib.Core.List.{List, [], _∷_}
@@ -19,7 +20,10 @@ following n at d = cond (leadsOn d) (at + d .next) n
 
 -- the step at a position: none where 20 bytes do not remain
 abbrev pub stepAt : List ℕ → ℕ → Step
-stepAt bytes at = cond (leb (at + size) (length bytes)) (Found (descriptorAt bytes at) (following (length bytes) at (descriptorAt bytes at))) Ended
+stepAt bytes at =
+    cond (leb (at + size) (length bytes))
+    (Found (descriptorAt bytes at) (following (length bytes) at (descriptorAt bytes at)))
+    Ended
 
 -- where a walk stands after a step
 abbrev pub position : ℕ → Step → ℕ

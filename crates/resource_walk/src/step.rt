@@ -1,4 +1,5 @@
-// A step through descriptor bytes: the descriptor at a position, and the position after it.
+// A step through descriptor bytes: the descriptor at a position, and the position after it. The
+// bytes may be anyone's, and so may the position.
 use numbers::number::Width;
 use numbers::number::big_at;
 use resource_descriptor::descriptor::Descriptor;
@@ -35,7 +36,8 @@ fn descriptor_at(bytes: &[u8], at: usize) -> Descriptor
     }
 }
 
-// The position after a descriptor in a slice of so many bytes: by its next field where it leads on, else the slice's end.
+// The position after a descriptor in a slice of so many bytes: by its next field where it leads on,
+// else the slice's end.
 fn following(end: usize, at: usize, d: Descriptor) -> usize
     requires { ⌜ (at ≤ end) × (end < 2 ^ 63) ⌝ }
     ensures { λ r. ⌜ r ≡ following end at d ⌝ }
@@ -51,6 +53,7 @@ pub fn descriptor_step(bytes: &[u8], at: usize) -> Step
     ensures { λ r. ⌜ r ≡ stepAt (now (bytes .entry)) at ⌝ }
 {
     let end = bytes.len();
+    // Whether SIZE bytes remain is asked by subtracting: at + SIZE may be above what a usize holds.
     if end < SIZE {
         return Step::Ended;
     }

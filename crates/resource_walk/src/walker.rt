@@ -1,4 +1,5 @@
-// The walker: the caller's descriptor bytes, and a position in them.
+// The walker: the caller's descriptor bytes, and a position in them. Its methods are thin, and what
+// it does is `descriptor_step`.
 use crate::step::Step;
 use crate::step::descriptor_step;
 use crate::step::position;
@@ -23,7 +24,9 @@ impl<'a> Walker<'a> {
 
     // The step at the walker's position; the walker then stands at the position after it.
     pub fn next<'s>(&'s mut self) -> Step
-        ensures { λ r. ⌜ (r ≡ stepAt (now (now (self .entry) .bytes)) (now (self .entry) .at)) × ((now (self .exit) .bytes ≡ now (self .entry) .bytes) × (now (self .exit) .at ≡ position (now (self .entry) .at) r)) ⌝ }
+        ensures { λ r. ⌜ (r ≡ stepAt (now (now (self .entry) .bytes)) (now (self .entry) .at))
+            × ((now (self .exit) .bytes ≡ now (self .entry) .bytes)
+            × (now (self .exit) .at ≡ position (now (self .entry) .at) r)) ⌝ }
     {
         let step = descriptor_step(self.bytes, self.at);
         self.at = position(self.at, step);

@@ -1,4 +1,5 @@
--- The program's run of the calls from the front of a script, call by call; and the whole in the reference machine's words.
+-- The program's run of the calls from the front of a script, call by call; and the whole in the
+-- reference machine's words.
 use Prim.Native.Nat.{ℕ, zero, suc, _+_}
 use native.Mathlib.Nat.{add-assoc}
 use mathlib.Core.List.{List, [], _∷_, _++_, append-assoc}

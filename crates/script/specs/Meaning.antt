@@ -1,4 +1,4 @@
--- What scripts mean, without the proofs.
+-- What scripts mean, without the proofs: docs/SCRIPT.md, "What is proved".
 use Prim.Native.Nat.{ℕ}
 use mathlib.Core.List.{List, [], _∷_, _++_}
 use mathlib.Core.Path.{_≡_}
@@ -27,9 +27,11 @@ pub record Covered (script : List ℕ) : Type 0 where
 abbrev pub ScriptRead : Type 0
 ScriptRead = (script : List ℕ) → Covered script
 
--- EVERY RUN IS A SCRIPT'S: what `run` leaves of the script of any calls that the types can hold are the reference machine's answers to all of them, and its board
+-- EVERY RUN IS A SCRIPT'S: what `run` leaves of the script of any calls that the types can hold are
+-- the reference machine's answers to all of them, and its board
 abbrev pub EveryRun : Type 0
 EveryRun =
     (cs : List Request) (cells : List ℕ) → TypesHoldAll cs
     → runOf (scriptOf cs) cells
-    ≡ ran (length (scriptOf cs)) (rendered (referenceResponses (referenceStart cells) cs)) (partsOf (referenceAfter (referenceStart cells) cs))
+    ≡ ran (length (scriptOf cs)) (rendered (referenceResponses (referenceStart cells) cs))
+    (partsOf (referenceAfter (referenceStart cells) cs))

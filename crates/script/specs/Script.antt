@@ -8,7 +8,14 @@ use Rattle.board.specs.Parts.{Parts}
 use Rattle.call.specs.declared.call.Call.{Call}
 use Rattle.reference.specs.Reference.{referenceStart}
 use Rattle.reference.specs.State.{step}
-use Rattle.reference.specs.Run.{Request, Response, request, referenceResponses, referenceAfter, partsOf}
+use Rattle.reference.specs.Run.{
+  Request,
+  Response,
+  request,
+  referenceResponses,
+  referenceAfter,
+  partsOf,
+}
 use Rattle.call_encoding.specs.declared.decode.Decoded.{Decoded}
 use Rattle.call_encoding.specs.declared.decode.Decoded.the-variants.{Known, Malformed}
 use Rattle.call_encoding.specs.Format.{callHeaderSize, decoded, answerBytes}
@@ -20,7 +27,9 @@ fitting room Malformed = Malformed
 
 -- the call at the front of a script
 unfoldable pub front : List ℕ → Decoded
-front l = cond (ltb (length l) callHeaderSize) Malformed (fitting (length l - callHeaderSize) (decoded (take callHeaderSize l)))
+front l =
+    cond (ltb (length l) callHeaderSize) Malformed
+    (fitting (length l - callHeaderSize) (decoded (take callHeaderSize l)))
 
 abbrev pub onCall : {A : Type 0} → Decoded → (Call → ℕ → A) → A → A
 onCall (Known c own) f x = f c own
@@ -33,7 +42,9 @@ ownBytes own l = take own (drop callHeaderSize l)
 -- the calls from the front up to the first malformed one, n at most
 unfoldable pub callsFrom : ℕ → List ℕ → List Request
 callsFrom zero l = []
-callsFrom (suc n) l = onCall (front l) (λ c own. request c (ownBytes own l) ∷ callsFrom n (drop (callHeaderSize + own) l)) []
+callsFrom (suc n) l =
+    onCall (front l)
+    (λ c own. request c (ownBytes own l) ∷ callsFrom n (drop (callHeaderSize + own) l)) []
 
 -- a script has no more calls than bytes
 abbrev pub callsIn : List ℕ → List Request
@@ -68,7 +79,8 @@ turnOf p l =
     onCall (front l)
     (λ c own.
     let n = step p c (ownBytes own l) in
-    ran (callHeaderSize + own) (answerBytes (n .answer) own ++ (n .own ++ drop (callHeaderSize + own) l)) (n .parts))
+    ran (callHeaderSize + own)
+    (answerBytes (n .answer) own ++ (n .own ++ drop (callHeaderSize + own) l)) (n .parts))
     (ran 0 l p)
 
 -- THE CONTRACT OF RUN, in the reference machine's words
@@ -76,4 +88,5 @@ unfoldable pub runOf : List ℕ → List ℕ → Ran
 runOf script cells =
     let calls = callsIn script in
     let b = referenceStart cells in
-    ran (stopIn script) (rendered (referenceResponses b calls) ++ drop (stopIn script) script) (partsOf (referenceAfter b calls))
+    ran (stopIn script) (rendered (referenceResponses b calls) ++ drop (stopIn script) script)
+    (partsOf (referenceAfter b calls))

@@ -1,4 +1,7 @@
-// The run of a script, from the board before the first load.
+// The run of a script, from the board before the first load. Calls and answers share their bytes:
+// an answer is written over its call's header and an own buffer is lent where it stands, so that a
+// script after its run is its answers, and a run needs no room beside it. The contract says the
+// whole run in the reference machine's words, so that demand 3 is a claim about this function.
 use crate::turn::turn;
 use board::layout::CellOffsets;
 use board::layout::FUNCTIONS;
@@ -30,7 +33,12 @@ fn clear(
     hooks: &mut Hooks,
     used: &mut Used,
 )
-    ensures { λ _. ⌜ ((cells : List ℕ) → parts (now (header .exit)) (now (records .exit)) (now (registers .exit)) (now (windows .exit)) (now (offsets .exit)) (now (hooks .exit)) (now (used .exit)) cells ≡ start cells) ⌝ }
+    ensures { λ _. ⌜
+        ((cells : List ℕ)
+        → parts (now (header .exit)) (now (records .exit)) (now (registers .exit))
+        (now (windows .exit)) (now (offsets .exit))
+        (now (hooks .exit)) (now (used .exit)) cells
+        ≡ start cells) ⌝ }
 {
     *header = [0u32; 4];
     *records = [0u8; FUNCTIONS * RECORD];
@@ -41,8 +49,9 @@ fn clear(
     *used = [0u32; MARK * FUNCTIONS];
 }
 
-// Performs the calls of a script one after the other, in place. Gives the position of the first malformed call, or the script's length where there is none; the
-// bytes from that position on stay as they were.
+// Performs the calls of a script one after the other, in place. Gives the position of the first
+// malformed call, or the script's length where there is none; the bytes from that position on stay
+// as they were.
 pub fn run(
     script: &mut [u8],
     header: &mut Header,
@@ -54,10 +63,15 @@ pub fn run(
     used: &mut Used,
     cells: &mut [u8],
 ) -> usize
-    ensures { λ r. ⌜ ran r (now (script .exit)) (parts (now (header .exit)) (now (records .exit)) (now (registers .exit)) (now (windows .exit)) (now (offsets .exit)) (now (hooks .exit)) (now (used .exit)) (now (cells .exit))) ≡ runOf (now (script .entry)) (now (cells .entry)) ⌝ }
+    ensures { λ r. ⌜ ran r (now (script .exit))
+        (parts (now (header .exit)) (now (records .exit)) (now (registers .exit))
+        (now (windows .exit)) (now (offsets .exit))
+        (now (hooks .exit)) (now (used .exit)) (now (cells .exit)))
+        ≡ runOf (now (script .entry)) (now (cells .entry)) ⌝ }
 {
     clear(header, records, registers, windows, offsets, hooks, used);
     let mut at = 0;
+    // Invariant: the bytes before `at` are done, and the run of the rest makes the whole run.
     while at < script.len() {
         let took = turn(
             &mut script[at..],

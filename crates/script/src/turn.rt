@@ -38,7 +38,8 @@ fn front(script: &[u8]) -> Decoded
     }
 }
 
-// Performs the call at the front of a script, in place. Gives the bytes that it takes, and 0 where it is malformed.
+// Performs the call at the front of a script, in place. Gives the bytes that it takes, and 0 where
+// it is malformed.
 pub fn turn(
     script: &mut [u8],
     header: &mut Header,
@@ -50,7 +51,15 @@ pub fn turn(
     used: &mut Used,
     cells: &mut [u8],
 ) -> usize
-    ensures { λ r. ⌜ ran r (now (script .exit)) (parts (now (header .exit)) (now (records .exit)) (now (registers .exit)) (now (windows .exit)) (now (offsets .exit)) (now (hooks .exit)) (now (used .exit)) (now (cells .exit))) ≡ turnOf (parts (now (header .entry)) (now (records .entry)) (now (registers .entry)) (now (windows .entry)) (now (offsets .entry)) (now (hooks .entry)) (now (used .entry)) (now (cells .entry))) (now (script .entry)) ⌝ }
+    ensures { λ r. ⌜ ran r (now (script .exit))
+        (parts (now (header .exit)) (now (records .exit)) (now (registers .exit))
+        (now (windows .exit)) (now (offsets .exit))
+        (now (hooks .exit)) (now (used .exit)) (now (cells .exit)))
+        ≡ turnOf
+        (parts (now (header .entry)) (now (records .entry)) (now (registers .entry))
+        (now (windows .entry)) (now (offsets .entry))
+        (now (hooks .entry)) (now (used .entry)) (now (cells .entry)))
+        (now (script .entry)) ⌝ }
 {
     match front(script) {
         Decoded::Known { call, own } => {

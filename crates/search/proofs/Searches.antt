@@ -1,4 +1,5 @@
--- Searches: what they depend on, a turn of the walk over the functions, and index n as the match with n matches before it.
+-- Searches: what they depend on, a turn of the walk over the functions, and index n as the match
+-- with n matches before it.
 use Prim.Native.Nat.{ℕ, zero, suc, _+_, _-_, _%_, _<_, _≤_}
 use native.Mathlib.Nat.{add-zero, zero-add, add-suc}
 use native.Mathlib.Numerals.{add-one}

@@ -10,20 +10,27 @@ use Rattle.board.specs.Statuses.{deviceNotFound}
 use Rattle.search.specs.declared.search.Search.{Search}
 use Rattle.search.specs.declared.search.Search.the-variants.{Found, Refused}
 
--- a function's registers r against a device ID in bits 31..16 and a vendor in 15..0; vendor FFFFh matches all
+-- a function's registers r against a device ID in bits 31..16 and a vendor in 15..0; vendor FFFFh
+-- matches all
 abbrev pub deviceMatches : ℕ → (ℕ → ℕ) → Bool
-deviceMatches id r = eqb (id % 2 ^ 16) 0xFFFF || (eqb (little 2 r 0x00) (id % 2 ^ 16) && eqb (little 2 r 0x02) (id / 2 ^ 16))
+deviceMatches id r =
+    eqb (id % 2 ^ 16) 0xFFFF
+    || (eqb (little 2 r 0x00) (id % 2 ^ 16) && eqb (little 2 r 0x02) (id / 2 ^ 16))
 
--- against a class in bits 23..0; bits 26, 25, 24 set mean ignore base, sub, programming interface; bits 31..27 play no part
+-- against a class in bits 23..0; bits 26, 25, 24 set mean ignore base, sub, programming interface;
+-- bits 31..27 play no part
 abbrev pub classMatches : ℕ → (ℕ → ℕ) → Bool
 classMatches class r =
-    ((bit 26 class || eqb (r 0x0B) (class / 2 ^ 16 % 256)) && (bit 25 class || eqb (r 0x0A) (class / 2 ^ 8 % 256)))
+    ((bit 26 class || eqb (r 0x0B) (class / 2 ^ 16 % 256))
+    && (bit 25 class || eqb (r 0x0A) (class / 2 ^ 8 % 256)))
     && (bit 24 class || eqb (r 0x09) (class % 256))
 
 -- the handles of the functions that match, in table order: of n functions from place i on
 unfoldable pub matching : (ℕ → Bool) → ℕ → ℕ → List ℕ
 matching m i zero = []
-matching m i (suc n) = cond (m i) ((i + 1) ∷ matching m (i + 1) n) (matching m (i + 1) n)
+matching m i (suc n) =
+    cond (m i) ((i + 1) ∷ matching m (i + 1) n)
+    (matching m (i + 1) n)
 
 -- of a count of functions with registers r
 abbrev pub devices : ℕ → ℕ → (ℕ → ℕ → ℕ) → List ℕ

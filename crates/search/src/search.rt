@@ -1,4 +1,5 @@
-// The two searches: by device and by class.
+// The two searches, by device and by class: one walk over the functions, which passes over as many
+// matches as the index says.
 use board::handle::function_count;
 use board::layout::Header;
 use board::layout::Registers;
@@ -9,18 +10,29 @@ use numbers::number::Width;
 ghost use mathlib.Core.Path.{_≡_};
 ghost use Rattle.board.specs.Handles.{functionCount};
 ghost use Rattle.board.specs.Layout.{registerByte};
-ghost use Rattle.search.specs.Search.{deviceMatches, classMatches, matching, devices, classes, Finds};
+ghost use Rattle.search.specs.Search.{
+  deviceMatches,
+  classMatches,
+  matching,
+  devices,
+  classes,
+  Finds,
+};
 ghost use Rattle.search.specs.Steps.{matches};
 
-// The handle found, or the refusal.
+// The answer of a search.
 pub enum Search {
+    // The handle found, which is the number handed back.
     Found(u32),
+    // -4, DEVICE_NOT_FOUND.
     Refused(Status),
 }
 
 // What a search looks for.
 pub(crate) enum Wanted {
+    // Device ID in bits 31 to 16, vendor in bits 15 to 0.
     Device(u32),
+    // Class in bits 23 to 0, the bytes to ignore in bits 26 to 24.
     Class(u32),
 }
 
@@ -66,6 +78,7 @@ fn class_matches(registers: &Registers, function: u32, class: u32) -> bool
         & ((class / IGNORE_INTERFACE % 2 == 1) | (interface == class % 256))
 }
 
+// Whether a function is one that a search looks for.
 fn matches(registers: &Registers, function: u32, wanted: Wanted) -> bool
     ensures { λ r. ⌜ r ≡ matches wanted (registerByte (now (registers .entry)) function) ⌝ }
 {
@@ -77,11 +90,15 @@ fn matches(registers: &Registers, function: u32, wanted: Wanted) -> bool
 
 // The function that matches with so many matches before it.
 fn find(header: &Header, registers: &Registers, wanted: Wanted, index: u32) -> Search
-    ensures { λ r. ⌜ Finds (matching (λ i. matches wanted (registerByte (now (registers .entry)) i)) 0 (functionCount (now (header .entry)))) index r ⌝ }
+    ensures { λ r. ⌜ Finds
+        (matching (λ i. matches wanted (registerByte (now (registers .entry)) i))
+        0 (functionCount (now (header .entry))))
+        index r ⌝ }
 {
     let count = function_count(header);
     let mut before = index;
     let mut i = 0;
+    // Invariant: the search from place i on, past `before` matches, answers as the whole search.
     while i < count {
         if matches(registers, i, wanted) {
             if before == 0 {
@@ -96,16 +113,24 @@ fn find(header: &Header, registers: &Registers, wanted: Wanted, index: u32) -> S
     Search::Refused(Status::DEVICE_NOT_FOUND)
 }
 
-// The match with so many matches before it in table order: device ID in bits 31 to 16, vendor in bits 15 to 0.
+// The match with so many matches before it in table order: device ID in bits 31 to 16, vendor in
+// bits 15 to 0.
 pub fn find_pci_device(header: &Header, registers: &Registers, id: u32, index: u32) -> Search
-    ensures { λ r. ⌜ Finds (devices id (functionCount (now (header .entry))) (registerByte (now (registers .entry)))) index r ⌝ }
+    ensures { λ r. ⌜ Finds
+        (devices id
+        (functionCount (now (header .entry))) (registerByte (now (registers .entry))))
+        index r ⌝ }
 {
     find(header, registers, Wanted::Device(id), index)
 }
 
-// The same by class: base, sub and programming interface in bits 23 to 0; bits 26, 25 and 24 ignore one each.
+// The same by class: base, sub and programming interface in bits 23 to 0; bits 26, 25 and 24 set
+// mean ignore one each, in that order.
 pub fn find_pci_classcode(header: &Header, registers: &Registers, class: u32, index: u32) -> Search
-    ensures { λ r. ⌜ Finds (classes class (functionCount (now (header .entry))) (registerByte (now (registers .entry)))) index r ⌝ }
+    ensures { λ r. ⌜ Finds
+        (classes class
+        (functionCount (now (header .entry))) (registerByte (now (registers .entry))))
+        index r ⌝ }
 {
     find(header, registers, Wanted::Class(class), index)
 }

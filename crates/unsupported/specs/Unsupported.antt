@@ -1,4 +1,4 @@
--- The calls that always give -2: document 01, "Numbers handed back".
+-- The calls that always give -2, whatever the handle is: document 01, "Numbers handed back".
 use Prim.Native.Nat.{ℕ}
 use Rattle.board.specs.Statuses.{funcNotSupported}
 use Rattle.board.specs.declared.status.Status.{Status}

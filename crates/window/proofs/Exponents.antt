@@ -1,4 +1,4 @@
--- The length exponent of a window.
+-- The length exponent of a window is 2 to 16.
 use Prim.Native.Nat.{ℕ, _≤_}
 use mathlib.Core.Bool.{true}
 use mathlib.Core.Path.{_≡_}

@@ -1,4 +1,4 @@
--- The windows of a kept list from place j on: none at its end, else one and those after it.
+-- The windows of a kept list from position j on: none at its end, else one and those after it.
 use Prim.Native.Nat.{ℕ, _+_, _≤_, _<_}
 use native.Mathlib.Numerals.{add-one}
 use mathlib.Core.Bool.{true, false}

@@ -1,14 +1,20 @@
--- A kept number: one window in one number.
+-- A kept number: one window of document 01, "Windows", in one number.
 use Prim.Native.Nat.{ℕ, _+_, _*_, _/_, _%_, _^_}
 use mathlib.Core.Bool.{Bool, cond}
 use mathlib.Core.List.{List, [], _∷_}
 use lib.Dec.{eqb}
 use Rattle.window.specs.Window.{Window}
 
--- from the top: space, start (32 bits), handle (5), base register (3), length (17), contested (1), so that the numbers' order is the list's
+-- from the top: space, start (32 bits), handle (5), base register (3), length (17), contested (1),
+-- so that the numbers' order is the list's
 unfoldable pub pack : Window → ℕ
 pack w =
-    ((((w .space * 2 ^ 32 + w .start) * 2 ^ 5 + w .handle) * 2 ^ 3 + w .base) * 2 ^ 17 + w .length) * 2 + cond (w .contested) 1 0
+    ((((w .space * 2 ^ 32
+    + w .start) * 2 ^ 5
+    + w .handle) * 2 ^ 3
+    + w .base) * 2 ^ 17
+    + w .length) * 2
+    + cond (w .contested) 1 0
 
 -- what a kept number says, by its fields
 abbrev pub unpack : ℕ → Window

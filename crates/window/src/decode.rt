@@ -5,7 +5,14 @@ ghost use mathlib.Core.Path.{_≡_};
 ghost use mathlib.Core.Bool.{cond};
 ghost use mathlib.Core.List.{[], _∷_};
 ghost use Prim.Native.Nat.{_<_, _≤_};
-ghost use Rattle.window.specs.Window.{startOf, commandBit, isWindow, windowLength, isOpen, windowOf};
+ghost use Rattle.window.specs.Window.{
+  startOf,
+  commandBit,
+  isWindow,
+  windowLength,
+  isOpen,
+  windowOf,
+};
 ghost use Rattle.window.specs.Kept.{code};
 
 // Whether the command byte opens the windows of a space: bit 0 for I/O, bit 1 for memory.
@@ -27,7 +34,7 @@ fn start(k: u32, x: u64) -> u64
     x - x % power(k)
 }
 
-// Whether a length exponent is a window's.
+// Whether a length exponent is a window's; an altered record may hold any byte.
 pub fn is_window(k: u8) -> bool
     ensures { λ r. ⌜ r ≡ isWindow k ⌝ }
 {

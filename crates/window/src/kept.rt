@@ -1,4 +1,7 @@
-// A kept number: one window in one number, whose numeric order is the list's order.
+// A kept number: one window in 59 bits, from the top
+//   space (1), start (32), handle (5), base register (3), length (17), contested (1)
+// so that the order of the numbers is the order of the window list. The length stands there, and
+// not its exponent: an end then needs no power.
 ghost use mathlib.Core.Path.{_≡_};
 ghost use lib.Dec.{eqb};
 ghost use Prim.Native.Nat.{_+_, _*_, _^_, _<_, _≤_};
@@ -27,7 +30,8 @@ const SPACE: u64 = START * STARTS;
 // An unmarked window.
 pub(crate) fn packed(space: u64, start: u64, length: u64, handle: u32, base: u8) -> u64
     requires { ⌜ (space < 2) × ((start < 4294967296) × (length ≤ 65536)) ⌝ }
-    ensures { λ r. ⌜ r ≡ ((((space * 2 ^ 32 + start) * 2 ^ 5 + handle) * 2 ^ 3 + base) * 2 ^ 17 + length) * 2 ⌝ }
+    ensures { λ r. ⌜ r
+        ≡ ((((space * 2 ^ 32 + start) * 2 ^ 5 + handle) * 2 ^ 3 + base) * 2 ^ 17 + length) * 2 ⌝ }
 {
     ((((space * STARTS + start) * HANDLES + handle as u64) * BASES + base as u64) * LENGTHS
         + length)
@@ -79,7 +83,8 @@ pub fn is_contested(w: u64) -> bool
     w % MARKS == 1
 }
 
-// Where the window begins and ends, with the I/O addresses after the memory addresses: one comparison then serves both spaces.
+// Where the window begins and ends, with the I/O addresses after the memory addresses: one
+// comparison then serves both spaces.
 pub fn beginning(w: u64) -> u64
     ensures { λ r. ⌜ r ≡ begins w ⌝ }
 {

@@ -1,4 +1,5 @@
--- The open windows: those of the base registers that are open, no two of one base register, each within its space.
+-- The open windows: those of the base registers that are open, no two of one base register, each
+-- within its space.
 use Prim.Native.Nat.{ℕ, zero, suc, _+_, _-_, _*_, _/_, _%_, _^_, _≤_, _<_}
 use native.Mathlib.Nat.{mul-le-mul-right, suc-mul, pow-le-pow-right}
 use native.Mathlib.Omega.{arith}

@@ -1,4 +1,5 @@
--- How the window list is kept in the lent array: a number a window, zeros after the last.
+-- The window list of document 01, "Windows", as the lent array keeps it: a number a window, zeros
+-- after the last.
 use Prim.Native.Nat.{ℕ, _-_}
 use mathlib.Core.List.{List, _++_, map}
 use lib.ListN.{length, replicate}

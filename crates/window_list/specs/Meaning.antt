@@ -1,4 +1,5 @@
--- What the window list means: statements alone, proved in proofs/Meaning.antt and proofs/KeptArray.antt.
+-- What the window list means (document 01, "Windows"): statements alone, proved in
+-- proofs/Meaning.antt and proofs/KeptArray.antt.
 use Prim.Native.Nat.{ℕ, _+_, _≤_, _<_}
 use mathlib.Core.Bool.{Bool, true, false, _&&_, cond}
 use mathlib.Core.List.{List, [], _∷_}
@@ -12,6 +13,7 @@ use Rattle.window_list.specs.Windows.{withMark, before, windowList}
 use Rattle.window.specs.Kept.{unpacked}
 use Rattle.window_list.specs.Kept.{keptList}
 
+-- each window of a list has P
 abbrev pub EveryWindow : (Window → Type 0) → List Window → Type 0
 EveryWindow P [] = Unit {0}
 EveryWindow P (w ∷ l) = P w × EveryWindow P l
@@ -30,8 +32,10 @@ pub record OpenAt (count : ℕ) (k r : ℕ → ℕ → ℕ) (w : Window) : Type 
   pub register : ℕ
   pub there : function < count
   pub six : register < bases
-  pub opened : isOpen (k function register) (baseRegister (r function) register) (command (r function)) ≡ true
-  pub same : withMark false w ≡ windowOf (k function register) (baseRegister (r function) register) (function + 1) register
+  pub opened : isOpen (k function register) (baseRegister (r function) register)
+      (command (r function)) ≡ true
+  pub same : withMark false w
+      ≡ windowOf (k function register) (baseRegister (r function) register) (function + 1) register
 
 -- v is a window of another base register, of w's space, and an address lies in both
 pub record Contests (w v : Window) : Type 0 where
@@ -54,30 +58,36 @@ Ascending (w ∷ l) = EveryWindow (λ v. before w v ≡ true) l × Ascending l
 
 -- every open window, once, with its mark, and nothing else; in order
 pub record Means (count : ℕ) (k r : ℕ → ℕ → ℕ) (l : List Window) : Type 0 where
-  pub listed : (w : Window) → In w l ↔ (OpenAt count k r w × ((w .contested ≡ true) ↔ Contested count k r w))
+  pub listed : (w : Window) → In w l
+      ↔ (OpenAt count k r w × ((w .contested ≡ true) ↔ Contested count k r w))
   pub once : (w : Window) → In w l → howMany (sameRegister w) l ≡ 1
   pub ascending : Ascending l
 
 abbrev pub ListMeans : Type 0
 ListMeans =
     (header records registers : List ℕ)
-    → Means (functionCount header) (exponent records) (registerByte registers) (windowList header records registers)
+    → Means (functionCount header) (exponent records) (registerByte registers)
+    (windowList header records registers)
 
 -- the kept numbers, unpacked, are the list
 abbrev pub KeptIsList : Type 0
 KeptIsList =
     (header records registers : List ℕ)
-    → unpacked (keptList (windowList header records registers)) ≡ windowList header records registers
+    → unpacked (keptList (windowList header records registers))
+    ≡ windowList header records registers
 
 -- the command byte and the base registers
 abbrev pub Watched : ℕ → Type 0
 Watched at = (at ≡ 0x04) ⊎ ((0x10 ≤ at) × (at < 0x28))
 
--- the list depends on the count, the records' exponents and the watched registers of the functions there are, and on nothing else
+-- the list depends on the count, the records' exponents and the watched registers of the functions
+-- there are, and on nothing else
 abbrev pub ListDependsOn : Type 0
 ListDependsOn =
     (header header′ records records′ registers registers′ : List ℕ)
     → functionCount header ≡ functionCount header′
-    → ((i b : ℕ) → i < functionCount header → b < bases → exponent records i b ≡ exponent records′ i b)
-    → ((i at : ℕ) → i < functionCount header → Watched at → registerByte registers i at ≡ registerByte registers′ i at)
+    → ((i b : ℕ) → i < functionCount header → b < bases
+    → exponent records i b ≡ exponent records′ i b)
+    → ((i at : ℕ) → i < functionCount header → Watched at
+    → registerByte registers i at ≡ registerByte registers′ i at)
     → windowList header records registers ≡ windowList header′ records′ registers′

@@ -1,4 +1,4 @@
--- The listing answers for window n of the list, in refusals too.
+-- The listing answers for index n of the list, in refusals too.
 use Prim.Native.Nat.{ℕ, zero, suc, _+_, _≤_, _<_}
 use native.Mathlib.Omega.{arith}
 use lib.Dec.{eqb}

@@ -1,4 +1,5 @@
-// The listing: the windows of the kept list, one by one.
+// The listing: the windows of the kept list, one by one. All of them are counted first: a loop that
+// stops at the window asked for takes more time in all (docs/DECISIONS.md).
 use board::address::BusAddress;
 use board::layout::Windows;
 use board::status::Status;
@@ -17,18 +18,22 @@ ghost use Rattle.window_listing.specs.Listing.{inSpace, foundWindow, Lis
 
 // A window in its space, with its start and length.
 pub enum ListedWindow {
+    // Space 0.
     Memory { start: BusAddress, length: u32 },
+    // Space 1.
     Io { start: BusAddress, length: u32 },
 }
 
 // An answer of the listing.
 pub enum Listing {
+    // Number 0.
     Found {
         window: ListedWindow,
         handle: u32,
         base: u32,
         contested: bool,
     },
+    // Number -4, and zeros for all values.
     Refused(Status),
 }
 
@@ -37,6 +42,7 @@ fn kept_count(list: &[u64]) -> usize
     ensures { λ r. ⌜ r ≡ length (unpacked (now (list .entry))) ⌝ }
 {
     let mut j = 0;
+    // Invariant: j and the windows from position j on come to the windows of the whole list.
     while j < list.len() {
         if is_end(list[j]) {
             return j;
@@ -46,6 +52,7 @@ fn kept_count(list: &[u64]) -> usize
     j
 }
 
+// A window of the I/O or of the memory space.
 fn in_space(io: bool, start: u32, length: u32) -> ListedWindow
     ensures { λ r. ⌜ r ≡ inSpace io start length ⌝ }
 {
@@ -73,7 +80,7 @@ fn listed(w: u64) -> Listing
     }
 }
 
-// Window n of the kept list, from 0; past the end DEVICE_NOT_FOUND.
+// The window at index n of the kept list, from 0; past the end DEVICE_NOT_FOUND.
 pub fn list_window(windows: &Windows, n: u32) -> Listing
     ensures { λ r. ⌜ Lists (unpacked (now (windows .entry))) n r ⌝ }
 {

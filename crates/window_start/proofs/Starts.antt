@@ -1,4 +1,4 @@
--- Laws of a shown start: turns of the search through the kept list at place j, and its 32 bits.
+-- Laws of a shown start: turns of the search through the kept list at position j, and its 32 bits.
 use Prim.Native.Nat.{ℕ, _+_, _^_, _<_, _≤_}
 use native.Mathlib.Omega.{arith}
 use mathlib.Core.Bool.{Bool, true, false, cond}

@@ -1,10 +1,11 @@
--- The start of a descriptor: document 01, "Numbers handed back", Resource.
+-- The start that a descriptor shows: document 01, "Descriptors".
 use Prim.Native.Nat.{ℕ}
 use mathlib.Core.Bool.{Bool, cond, _&&_}
 use mathlib.Core.List.{List, [], _∷_}
 use lib.Dec.{eqb}
 use Rattle.window.specs.Window.{Window}
 
+-- w is the window of base register b of a handle
 abbrev pub isOf : ℕ → ℕ → Window → Bool
 isOf handle b w = eqb (w .handle) handle && eqb (w .base) b
 

@@ -31,6 +31,7 @@ pub fn start_in(list: &[u64], handle: u32, base: u8) -> u32
     ensures { λ r. ⌜ r ≡ startIn (unpacked (now (list .entry))) handle base ⌝ }
 {
     let mut j = 0;
+    // Invariant: the search from position j on answers as the search of the whole list does.
     while j < list.len() {
         let w = list[j];
         if is_end(w) {

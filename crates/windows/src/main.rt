@@ -1,4 +1,5 @@
-// Lists the windows of the board whose image stands on standard input: document 01, "Board B1 and its cases".
+// Lists the windows of the board whose image stands on standard input: document 01, "Board B1 and
+// its cases". The count is printed before the windows, so that the list is gone through twice.
 use board::layout::CellOffsets;
 use board::layout::FUNCTIONS;
 use board::layout::HOOK;
@@ -85,6 +86,7 @@ fn window(windows: &Windows, n: u32, shown: bool) -> bool {
 // Goes through the windows in order; gives how many there are.
 fn walk(windows: &Windows, shown: bool) -> u32 {
     let mut n = 0;
+    // Invariant: n is at most 96, the windows of a board at most.
     while n < WINDOWS as u32 {
         if !window(windows, n, shown) {
             return n;
