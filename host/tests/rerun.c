@@ -1,11 +1,8 @@
-/* The reader of traces for the tests; it follows docs/TRACE.md and docs/SCRIPT.md and shares nothing with pci_trace.c.
- */
+/* The reader of traces for the tests; it follows docs/TRACE.md and docs/SCRIPT.md and shares nothing
+   with pci_trace.c. */
 #include <string.h>
+#include "bios_library.h"
 #include "rerun.h"
-
-size_t bios_run_script(uint8_t *script, size_t length, uint32_t *header, uint8_t *records, uint8_t *registers,
-                       uint64_t *windows, uint32_t *cell_offsets, uint32_t *hooks, uint32_t *used, uint8_t *cells,
-                       size_t cells_length);
 
 static size_t long_at(const uint8_t *bytes) {
     return (size_t)bytes[0] << 24 | (size_t)bytes[1] << 16 | (size_t)bytes[2] << 8 | bytes[3];
