@@ -26,7 +26,7 @@ static int lent_apart(const struct pci_lent *parts, size_t count) {
     return 1;
 }
 
-/* What is lent to one call: its board, its buffers, the places of its results. The library may take it for granted that
+/* What is lent to one call: its board, its buffers, the variables for its results. The library may take it for granted that
    they are apart, so a debug build looks. */
 #define LENT(...)                                                  \
     do {                                                           \
@@ -264,12 +264,12 @@ int32_t pci_unhook_interrupt(struct pci_board *board, uint32_t handle) {
     return number;
 }
 
-int32_t pci_list_chain(const struct pci_board *board, uint32_t line, uint32_t place, uint32_t *handle,
+int32_t pci_list_chain(const struct pci_board *board, uint32_t line, uint32_t index, uint32_t *handle,
                        uint32_t *handler, uint32_t *parameter) {
     LENT({board, sizeof *board}, {handle, sizeof *handle}, {handler, sizeof *handler}, {parameter, sizeof *parameter});
-    CALL(board, OP_LIST_CHAIN, .a = line, .b = place);
+    CALL(board, OP_LIST_CHAIN, .a = line, .b = index);
     uint64_t values[6];
-    int32_t number = bios_list_chain(board->records, board->hooks, line, place, values);
+    int32_t number = bios_list_chain(board->records, board->hooks, line, index, values);
     ANSWER(board, number, number != 0, values[0], values[1], values[2]);
     *handle = (uint32_t)values[0];
     *handler = (uint32_t)values[1];

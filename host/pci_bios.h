@@ -29,8 +29,8 @@ struct pci_descriptor {
     uint32_t start, length, offset, dmaoffset;
 };
 
-/* What is lent to one call, buffers and the places of results, overlaps neither itself nor the board; a build without
-   NDEBUG asserts it. A buffer of length 0 may be NULL. Every call writes the places of its results, refused or not. */
+/* What is lent to one call, buffers and the variables for results, overlaps neither itself nor the board; a build without
+   NDEBUG asserts it. A buffer of length 0 may be NULL. Every call writes all of its results, refused or not. */
 
 /* The number of an image's first refusal, 0 for none, 8 left out; with 6 the place of the record at fault, else 0. */
 int32_t pci_check_image(const uint8_t *image, size_t length, uint32_t *place);
@@ -110,8 +110,8 @@ int32_t pci_hook_interrupt(struct pci_board *board, uint32_t handle, uint32_t ha
 /* Takes the function's hook from its chain, the others keep their order: 0, or -9 a bad handle, -8 not hooked. */
 int32_t pci_unhook_interrupt(struct pci_board *board, uint32_t handle);
 
-/* The hook at a place of a line's chain, from 0: 0, or -8 line above 15, -4 past the end, with zeros. */
-int32_t pci_list_chain(const struct pci_board *board, uint32_t line, uint32_t place, uint32_t *handle,
+/* The hook with this index on a line's chain, from 0: 0, or -8 line above 15, -4 past the end, with zeros. */
+int32_t pci_list_chain(const struct pci_board *board, uint32_t line, uint32_t index, uint32_t *handle,
                        uint32_t *handler, uint32_t *parameter);
 
 /* The used status of a function and its call-back address: 0, or -9 and zeros. The status is 0 free, 1 in use, 2 in use

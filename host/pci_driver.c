@@ -1,4 +1,4 @@
-/* The calls of pci_driver.h over those of pci_bios.h: the current board, and pointers in place of numbers. */
+/* The calls of pci_driver.h over those of pci_bios.h: the current board, and pointers instead of numbers. */
 #include <string.h>
 #include "pci_bios.h"
 #include "pci_driver.h"
@@ -101,9 +101,9 @@ LONG unhook_interrupt(LONG handle) {
     return pci_unhook_interrupt(board, (uint32_t)handle);
 }
 
-LONG pci_list_handlers(ULONG line, ULONG place, LONG *handle, pci_handler **routine, void **parameter) {
+LONG pci_list_handlers(ULONG line, ULONG index, LONG *handle, pci_handler **routine, void **parameter) {
     uint32_t hooked, token, same;
-    LONG number = pci_list_chain(board, line, place, &hooked, &token, &same);
+    LONG number = pci_list_chain(board, line, index, &hooked, &token, &same);
     *handle = (LONG)hooked;
     int ours = number == PCI_SUCCESSFUL && token == hooked;
     *routine = ours ? kept_of(token)->routine : NULL;

@@ -78,8 +78,8 @@ LONG write_config_longword(LONG handle, UBYTE reg, ULONG val);
 LONG hook_interrupt(LONG handle, pci_handler *routine, void *parameter);
 LONG unhook_interrupt(LONG handle);
 
-/* Not of the BIOS: the hook at a place of a line's chain, from 0, as pci_list_chain gives it; NULL where refused. */
-LONG pci_list_handlers(ULONG line, ULONG place, LONG *handle, pci_handler **routine, void **parameter);
+/* Not of the BIOS: the hook with this index on a line's chain, from 0, as pci_list_chain gives it; NULL where refused. */
+LONG pci_list_handlers(ULONG line, ULONG index, LONG *handle, pci_handler **routine, void **parameter);
 
 /* Not supported: always PCI_FUNC_NOT_SUPPORTED. The texts leave the parameters of the last two open. */
 LONG special_cycle(UBYTE bus, ULONG data);
@@ -94,7 +94,7 @@ intptr_t get_resource(LONG handle);
 /* The status 0 to 3 of a card or an error; the call-back entry, which only status 2 has, else NULL. */
 LONG get_card_used(LONG handle, pci_callback **callback);
 
-/* Sets status 2 with this call-back entry; one of these in its place sets status 0, 1 or 3. */
+/* Sets status 2 with this call-back entry; one of these instead of it sets status 0, 1 or 3. */
 #define PCI_CARD_FREE ((pci_callback *)0)
 #define PCI_CARD_IN_USE ((pci_callback *)1)
 #define PCI_CARD_TAKE_OVER ((pci_callback *)3)

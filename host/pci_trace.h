@@ -7,7 +7,7 @@
 #include "pci_bios.h"
 
 /* A trace belongs to the caller, who reads and writes none of it. It need not be cleared before the start. Board, cells
-   and streams stay in place until its end; a copy of the board is another board. */
+   and streams stay where they are until its end; a copy of the board is another board. */
 struct pci_trace {
     struct pci_trace *next;
     const struct pci_board *board;

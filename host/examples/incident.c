@@ -20,7 +20,7 @@ static void interrupt(void) {
     LONG handle, internal = 0;
     pci_handler *routine;
     void *parameter;
-    for (ULONG place = 0; pci_list_handlers(LINE, place, &handle, &routine, &parameter) == 0; place++)
+    for (ULONG index = 0; pci_list_handlers(LINE, index, &handle, &routine, &parameter) == 0; index++)
         internal = routine(parameter, internal);
 }
 
@@ -29,8 +29,8 @@ static void show_line(void) {
     pci_handler *routine;
     void *parameter;
     printf("line %d calls", LINE);
-    for (ULONG place = 0; pci_list_handlers(LINE, place, &handle, &routine, &parameter) == 0; place++)
-        printf("%s handle %" PRId32, place == 0 ? "" : ",", handle);
+    for (ULONG index = 0; pci_list_handlers(LINE, index, &handle, &routine, &parameter) == 0; index++)
+        printf("%s handle %" PRId32, index == 0 ? "" : ",", handle);
     printf("\n");
 }
 

@@ -1,5 +1,5 @@
 /* Loads with a library whose board may have another layout: the argument names the part that is longer there, by its
-   number. pci_bios.c is compiled with this test_part_bytes in place of bios_part_bytes; the load must abort. */
+   number. pci_bios.c is compiled with this test_part_bytes instead of bios_part_bytes; the load must abort. */
 #include <stdlib.h>
 #include <string.h>
 #include "pci_bios.h"

@@ -6,7 +6,7 @@
 static struct pci_board board;
 static uint8_t cells[64];
 static struct pci_descriptor descriptor;
-static uint32_t place, value;
+static uint32_t place, value, other;
 static size_t following;
 static int fault;
 
@@ -33,7 +33,7 @@ static int buffers(int number) {
     }
 }
 
-/* Places of results in the board, and one place for two results. */
+/* Results that go into the board, and two results that go into one variable. */
 static int results(int number) {
     switch (number) {
     case 16: return pci_list_window(&board, 0, (struct pci_window *)(void *)board.registers), 1;
@@ -41,8 +41,8 @@ static int results(int number) {
     case 18: return pci_fast_read_config(&board, 4, 1, 0, (int *)(void *)&board.used[31]), 1;
     case 19: return pci_bus_to_cpu(&board, 1, 0, board.hooks), 1;
     case 20: return pci_cpu_to_bus(&board, 1, 0, board.hooks), 1;
-    case 21: return pci_list_chain(&board, 5, 0, &place, &value, &value), 1;
-    case 22: return pci_list_chain(&board, 5, 0, &board.used[0], &value, &place), 1;
+    case 21: return pci_list_chain(&board, 5, 0, &other, &value, &value), 1;
+    case 22: return pci_list_chain(&board, 5, 0, &board.used[0], &value, &other), 1;
     case 23: return pci_get_card_used(&board, 1, &value, &value), 1;
     case 24: return pci_get_card_used(&board, 1, &value, &board.used[1]), 1;
     case 25: return pci_read_data(&board, cells, sizeof cells, 0, 4, 1, 0, board.header), 1;

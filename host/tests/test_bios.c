@@ -193,10 +193,10 @@ static void test_descriptors(void) {
     check_step(0, 0, none, 0, 0);
 }
 
-static void check_chain(uint32_t line, uint32_t at, int32_t number, uint32_t handle, uint32_t handler,
+static void check_chain(uint32_t line, uint32_t index, int32_t number, uint32_t handle, uint32_t handler,
                         uint32_t parameter) {
     uint32_t got[3] = {9, 9, 9};
-    LEAVES(number, pci_list_chain(&board, line, at, &got[0], &got[1], &got[2]));
+    LEAVES(number, pci_list_chain(&board, line, index, &got[0], &got[1], &got[2]));
     GIVES(handle, got[0]);
     GIVES(handler, got[1]);
     GIVES(parameter, got[2]);

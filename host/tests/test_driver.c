@@ -174,12 +174,12 @@ static void test_resources(void) {
     check_resource(second, 0x0701, 0x90000000, 0x400);
 }
 
-/* The hook at a place of line 5, with NULL for a place that is refused. */
-static void check_hook(ULONG place, LONG number, LONG handle, pci_handler *routine, void *parameter) {
+/* The hook with this index on line 5, with NULL for an index that is refused. */
+static void check_hook(ULONG index, LONG number, LONG handle, pci_handler *routine, void *parameter) {
     LONG got_handle = 9;
     pci_handler *got_routine = first_handler;
     void *got_parameter = &byte;
-    LEAVES(number, pci_list_handlers(5, place, &got_handle, &got_routine, &got_parameter));
+    LEAVES(number, pci_list_handlers(5, index, &got_handle, &got_routine, &got_parameter));
     GIVES(handle, got_handle);
     GIVES(1, got_routine == routine);
     GIVES(1, got_parameter == parameter);
