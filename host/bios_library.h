@@ -9,8 +9,7 @@
    hand, for the comparison with the second implementation.
 
    A slice of the exports is a pointer and a length here; an array, or a number that is written, is
-   a pointer. No pointer is NULL, not even with length 0, and what they point to does not
-   overlap. */
+   a pointer. None is NULL, not even with length 0, and what they point to does not overlap. */
 #ifndef BIOS_LIBRARY_H
 #define BIOS_LIBRARY_H
 

@@ -1,6 +1,7 @@
-/* A first use from C: loads the image on standard input, finds its two cards, moves the second one's memory window onto
-   the first one's and back, with a list of the memory windows each time, and writes the board back. Each card has 256
-   bins of four bytes; last, a sample is counted in the first card's last bin, and a stray one in the bin past it. */
+/* A first use from C: loads the image on standard input, finds its two cards, moves the second
+   one's memory window onto the first one's and back, with a list of the memory windows each time,
+   and writes the board back. Each card has 256 bins of four bytes; last, a sample is counted in the
+   first card's last bin, and a stray one in the bin past it. */
 #include <inttypes.h>
 #include <stdio.h>
 #include "pci_bios.h"
@@ -12,8 +13,9 @@ static void list_memory(void) {
     struct pci_window window;
     for (uint32_t n = 0; pci_list_window(&board, n, &window) == 0; n++)
         if (!window.io)
-            printf("memory %08" PRIx32 ", %" PRIu32 " bytes, handle %" PRIu32 ", %s\n", window.start, window.length,
-                   window.handle, window.contested ? "contested" : "clear");
+            printf("memory %08" PRIx32 ", %" PRIu32 " bytes, handle %" PRIu32 ", %s\n",
+                   window.start, window.length, window.handle,
+                   window.contested ? "contested" : "clear");
 }
 
 /* A bin is a longword of the card's memory window. */
@@ -23,8 +25,10 @@ static int32_t put_bin(int32_t card, uint32_t start, uint32_t bin, uint32_t samp
 
 static void show_bin(int32_t card, uint32_t start, uint32_t bin) {
     uint32_t samples;
-    int32_t number = pci_read_data(&board, cells, sizeof cells, 0, 4, card, start + 4 * bin, &samples);
-    printf("handle %" PRId32 ", bin %" PRIu32 ": read %" PRId32 ", samples %" PRIu32 "\n", card, bin, number, samples);
+    int32_t number =
+        pci_read_data(&board, cells, sizeof cells, 0, 4, card, start + 4 * bin, &samples);
+    printf("handle %" PRId32 ", bin %" PRIu32 ": read %" PRId32 ", samples %" PRIu32 "\n", card,
+           bin, number, samples);
 }
 
 int main(void) {
@@ -48,7 +52,8 @@ int main(void) {
 
     printf("written %" PRId32 "\n", pci_write_image(&board, out, sizeof out));
 
-    /* By address bin 256 of the first card is bin 0 of the second; through the first card's handle it is nothing. */
+    /* By address bin 256 of the first card is bin 0 of the second; through the first card's
+       handle it is nothing. */
     printf("sample in bin 255 %" PRId32 "\n", put_bin(first, first_start, 255, 1));
     printf("sample in bin 256 %" PRId32 "\n", put_bin(first, first_start, 256, 1));
     show_bin(first, first_start, 255);

@@ -1,5 +1,5 @@
-/* The calls of pci_bios.h over the proved static library, which bios_library.h declares: numbers and
-   pointers are passed on, and told to a recorder where there is one; no rule stands here. */
+/* The calls of pci_bios.h over the proved static library, which bios_library.h declares: numbers
+   and pointers are passed on, and told to a recorder where there is one; no rule stands here. */
 #include <assert.h>
 #include <inttypes.h>
 #include <stdio.h>
@@ -11,7 +11,8 @@
 #ifdef NDEBUG
 #define LENT(...) ((void)0)
 #else
-/* Whether each part that is lent to a call has an address, unless it is empty, and no two share a byte. */
+/* Whether each part that is lent to a call has an address, unless it is empty, and no two
+   share a byte. */
 static int lent_apart(const struct pci_lent *parts, size_t count) {
     for (size_t i = 0; i < count; i++) {
         uintptr_t a = (uintptr_t)parts[i].start;
@@ -26,8 +27,8 @@ static int lent_apart(const struct pci_lent *parts, size_t count) {
     return 1;
 }
 
-/* What is lent to one call: its board, its buffers, the variables for its results. The library may take it for granted that
-   they are apart, so a debug build looks. */
+/* What is lent to one call: its board, its buffers, the variables for its results. The library may
+   take it for granted that they are apart, so a debug build looks. */
 #define LENT(...)                                                  \
     do {                                                           \
         const struct pci_lent parts[] = {__VA_ARGS__};             \
@@ -37,7 +38,8 @@ static int lent_apart(const struct pci_lent *parts, size_t count) {
 
 const struct pci_recorder *pci_recorder;
 
-/* Tells the recorder, where there is one, of a call on a board: the operation, then the fields that it has. */
+/* Tells the recorder, where there is one, of a call on a board: the operation, then the fields
+   that it has. */
 #define CALL(on, what, ...)                                                                      \
     do {                                                                                         \
         if (pci_recorder != NULL)                                                                \
@@ -54,7 +56,8 @@ const struct pci_recorder *pci_recorder;
             pci_recorder->answer(on, &(struct pci_answer){number, refused, {__VA_ARGS__}}); \
     } while (0)
 
-/* An empty buffer may be NULL here; the library is given an address in every case. Nothing is read or written there. */
+/* An empty buffer may be NULL here; the library is given an address in every case. Nothing is
+   read or written there. */
 static uint8_t *given(uint8_t *bytes, size_t length) {
     static uint8_t nothing;
     return length == 0 ? &nothing : bytes;
@@ -83,21 +86,23 @@ static void check_layout(void) {
     for (uint32_t part = 0; part < sizeof board_parts / sizeof board_parts[0]; part++) {
         uint64_t bytes = bios_part_bytes(part);
         if (bytes != board_parts[part].bytes) {
-            fprintf(stderr, "pci_load: %s of a board has %zu bytes in pci_bios.h and %" PRIu64 " in the library\n",
+            fprintf(stderr,
+                    "pci_load: %s of a board has %zu bytes in pci_bios.h and %" PRIu64
+                    " in the library\n",
                     board_parts[part].name, board_parts[part].bytes, bytes);
             abort();
         }
     }
 }
 
-int32_t pci_load(struct pci_board *board, uint8_t *cells, size_t cells_length, const uint8_t *image, size_t length,
-                 uint32_t *place) {
+int32_t pci_load(struct pci_board *board, uint8_t *cells, size_t cells_length, const uint8_t *image,
+                 size_t length, uint32_t *place) {
     check_layout();
     LENT({board, sizeof *board}, {cells, cells_length}, {image, length}, {place, sizeof *place});
     CALL(board, OP_LOAD, .own = {image, length}, CELLS(cells, cells_length));
-    int32_t number = bios_load(given_const(image, length), length, board->header, board->records, board->registers,
-                               board->windows, board->cell_offsets, board->hooks, board->used,
-                               given(cells, cells_length), cells_length, place);
+    int32_t number = bios_load(given_const(image, length), length, board->header, board->records,
+                               board->registers, board->windows, board->cell_offsets, board->hooks,
+                               board->used, given(cells, cells_length), cells_length, place);
     ANSWER(board, number, number != 0, *place);
     return number;
 }
@@ -105,8 +110,9 @@ int32_t pci_load(struct pci_board *board, uint8_t *cells, size_t cells_length, c
 int32_t pci_reset(struct pci_board *board, uint8_t *cells, size_t cells_length) {
     LENT({board, sizeof *board}, {cells, cells_length});
     CALL(board, OP_RESET, CELLS(cells, cells_length));
-    int32_t number = bios_reset(board->header, board->records, board->registers, board->windows, board->cell_offsets,
-                                board->hooks, board->used, given(cells, cells_length), cells_length);
+    int32_t number = bios_reset(board->header, board->records, board->registers, board->windows,
+                                board->cell_offsets, board->hooks, board->used,
+                                given(cells, cells_length), cells_length);
     ANSWER(board, number, number != 0, 0);
     return number;
 }
@@ -114,7 +120,8 @@ int32_t pci_reset(struct pci_board *board, uint8_t *cells, size_t cells_length) 
 int32_t pci_write_image(const struct pci_board *board, uint8_t *out, size_t length) {
     LENT({board, sizeof *board}, {out, length});
     CALL(board, OP_WRITE_IMAGE, .own = {out, length});
-    int32_t number = (int32_t)bios_write_image(board->header, board->records, given(out, length), length);
+    int32_t number =
+        (int32_t)bios_write_image(board->header, board->records, given(out, length), length);
     ANSWER(board, number, number != 0, 0);
     return number;
 }
@@ -124,7 +131,8 @@ int32_t pci_list_window(const struct pci_board *board, uint32_t n, struct pci_wi
     CALL(board, OP_LIST_WINDOW, .a = n);
     uint64_t values[6];
     int32_t number = bios_list_window(board->windows, n, values);
-    ANSWER(board, number, number != 0, values[0], values[1], values[2], values[3], values[4], values[5]);
+    ANSWER(board, number, number != 0, values[0], values[1], values[2], values[3], values[4],
+           values[5]);
     window->io = (int)values[0];
     window->start = (uint32_t)values[1];
     window->length = (uint32_t)values[2];
@@ -148,7 +156,8 @@ int32_t pci_find_class(const struct pci_board *board, uint32_t class_code, uint3
     return number;
 }
 
-int32_t pci_read_config(const struct pci_board *board, unsigned width, uint32_t handle, uint8_t reg, uint32_t *value) {
+int32_t pci_read_config(const struct pci_board *board, unsigned width, uint32_t handle, uint8_t reg,
+                        uint32_t *value) {
     LENT({board, sizeof *board}, {value, sizeof *value});
     CALL(board, OP_READ_CONFIG, .width = width, .reg = reg, .handle = handle);
     int32_t number = bios_read_config(board->header, board->registers, width, handle, reg, value);
@@ -156,62 +165,68 @@ int32_t pci_read_config(const struct pci_board *board, unsigned width, uint32_t 
     return number;
 }
 
-uint32_t pci_fast_read_config(const struct pci_board *board, unsigned width, uint32_t handle, uint8_t reg, int *fault) {
+uint32_t pci_fast_read_config(const struct pci_board *board, unsigned width, uint32_t handle,
+                              uint8_t reg, int *fault) {
     LENT({board, sizeof *board}, {fault, sizeof *fault});
     CALL(board, OP_FAST_READ_CONFIG, .width = width, .reg = reg, .handle = handle);
     uint32_t flag;
-    uint32_t value = bios_fast_read_config(board->header, board->registers, width, handle, reg, &flag);
+    uint32_t value =
+        bios_fast_read_config(board->header, board->registers, width, handle, reg, &flag);
     ANSWER(board, 0, (int)flag, value);
     *fault = (int)flag;
     return value;
 }
 
-int32_t pci_write_config(struct pci_board *board, unsigned width, uint32_t handle, uint8_t reg, uint32_t value) {
+int32_t pci_write_config(struct pci_board *board, unsigned width, uint32_t handle, uint8_t reg,
+                         uint32_t value) {
     CALL(board, OP_WRITE_CONFIG, .width = width, .reg = reg, .handle = handle, .a = value);
-    int32_t number = bios_write_config(board->header, board->records, board->registers, board->windows, width, handle,
-                                       reg, value);
+    int32_t number = bios_write_config(board->header, board->records, board->registers,
+                                       board->windows, width, handle, reg, value);
     ANSWER(board, number, number != 0, 0);
     return number;
 }
 
-int32_t pci_read_data(const struct pci_board *board, const uint8_t *cells, size_t cells_length, int io, unsigned width,
-                      uint32_t handle, uint32_t address, uint32_t *value) {
+int32_t pci_read_data(const struct pci_board *board, const uint8_t *cells, size_t cells_length,
+                      int io, unsigned width, uint32_t handle, uint32_t address, uint32_t *value) {
     LENT({board, sizeof *board}, {cells, cells_length}, {value, sizeof *value});
-    CALL(board, OP_READ_DATA, .width = width, .io = io, .handle = handle, .a = address, CELLS(cells, cells_length));
-    int32_t number = bios_read_data(board->header, board->records, board->windows, board->cell_offsets,
-                                    given_const(cells, cells_length), cells_length, (uint32_t)io, width, handle,
-                                    address, value);
+    CALL(board, OP_READ_DATA, .width = width, .io = io, .handle = handle, .a = address,
+         CELLS(cells, cells_length));
+    int32_t number = bios_read_data(board->header, board->records, board->windows,
+                                    board->cell_offsets, given_const(cells, cells_length),
+                                    cells_length, (uint32_t)io, width, handle, address, value);
     ANSWER(board, number, number != 0, *value);
     return number;
 }
 
-uint32_t pci_fast_read_data(const struct pci_board *board, const uint8_t *cells, size_t cells_length, int io,
-                            unsigned width, uint32_t handle, uint32_t address, int *fault) {
+uint32_t pci_fast_read_data(const struct pci_board *board, const uint8_t *cells,
+                            size_t cells_length, int io, unsigned width, uint32_t handle,
+                            uint32_t address, int *fault) {
     LENT({board, sizeof *board}, {cells, cells_length}, {fault, sizeof *fault});
     CALL(board, OP_FAST_READ_DATA, .width = width, .io = io, .handle = handle, .a = address,
          CELLS(cells, cells_length));
     uint32_t flag;
-    uint32_t value = bios_fast_read_data(board->header, board->records, board->windows, board->cell_offsets,
-                                         given_const(cells, cells_length), cells_length, (uint32_t)io, width, handle,
-                                         address, &flag);
+    uint32_t value = bios_fast_read_data(board->header, board->records, board->windows,
+                                         board->cell_offsets, given_const(cells, cells_length),
+                                         cells_length, (uint32_t)io, width, handle, address, &flag);
     ANSWER(board, 0, (int)flag, value);
     *fault = (int)flag;
     return value;
 }
 
-int32_t pci_write_data(struct pci_board *board, uint8_t *cells, size_t cells_length, int io, unsigned width,
-                       uint32_t handle, uint32_t address, uint32_t value) {
+int32_t pci_write_data(struct pci_board *board, uint8_t *cells, size_t cells_length, int io,
+                       unsigned width, uint32_t handle, uint32_t address, uint32_t value) {
     LENT({board, sizeof *board}, {cells, cells_length});
     CALL(board, OP_WRITE_DATA, .width = width, .io = io, .handle = handle, .a = address, .b = value,
          CELLS(cells, cells_length));
-    int32_t number = bios_write_data(board->header, board->records, board->windows, board->cell_offsets,
-                                     given(cells, cells_length), cells_length, (uint32_t)io, width, handle, address,
-                                     value);
+    int32_t number = bios_write_data(board->header, board->records, board->windows,
+                                     board->cell_offsets, given(cells, cells_length), cells_length,
+                                     (uint32_t)io, width, handle, address, value);
     ANSWER(board, number, number != 0, 0);
     return number;
 }
 
-int32_t pci_bus_to_cpu(const struct pci_board *board, uint32_t handle, uint32_t address, uint32_t *cpu) {
+int32_t pci_bus_to_cpu(const struct pci_board *board, uint32_t handle, uint32_t address,
+                       uint32_t *cpu) {
     LENT({board, sizeof *board}, {cpu, sizeof *cpu});
     CALL(board, OP_BUS_TO_CPU, .handle = handle, .a = address);
     int32_t number = bios_bus_to_cpu(board->header, board->records, handle, address, cpu);
@@ -219,7 +234,8 @@ int32_t pci_bus_to_cpu(const struct pci_board *board, uint32_t handle, uint32_t 
     return number;
 }
 
-int32_t pci_cpu_to_bus(const struct pci_board *board, uint32_t handle, uint32_t address, uint32_t *bus) {
+int32_t pci_cpu_to_bus(const struct pci_board *board, uint32_t handle, uint32_t address,
+                       uint32_t *bus) {
     LENT({board, sizeof *board}, {bus, sizeof *bus});
     CALL(board, OP_CPU_TO_BUS, .handle = handle, .a = address);
     int32_t number = bios_cpu_to_bus(board->header, board->records, handle, address, bus);
@@ -227,20 +243,22 @@ int32_t pci_cpu_to_bus(const struct pci_board *board, uint32_t handle, uint32_t 
     return number;
 }
 
-int32_t pci_get_resource(const struct pci_board *board, uint32_t handle, uint8_t *out, size_t length) {
+int32_t pci_get_resource(const struct pci_board *board, uint32_t handle, uint8_t *out,
+                         size_t length) {
     LENT({board, sizeof *board}, {out, length});
     CALL(board, OP_GET_RESOURCE, .handle = handle, .own = {out, length});
-    int32_t number = bios_get_resource(board->header, board->records, board->registers, board->windows, handle,
-                                       given(out, length), length);
+    int32_t number = bios_get_resource(board->header, board->records, board->registers,
+                                       board->windows, handle, given(out, length), length);
     ANSWER(board, number, number != 0, 0);
     return number;
 }
 
-int32_t pci_descriptor_step(const uint8_t *bytes, size_t length, size_t at, struct pci_descriptor *descriptor,
-                            size_t *following) {
+int32_t pci_descriptor_step(const uint8_t *bytes, size_t length, size_t at,
+                            struct pci_descriptor *descriptor, size_t *following) {
     LENT({bytes, length}, {descriptor, sizeof *descriptor}, {following, sizeof *following});
     uint32_t fields[6];
-    uint32_t found = bios_descriptor_step(given_const(bytes, length), length, at, fields, following);
+    uint32_t found =
+        bios_descriptor_step(given_const(bytes, length), length, at, fields, following);
     descriptor->next = (uint16_t)fields[0];
     descriptor->flags = (uint16_t)fields[1];
     descriptor->start = fields[2];
@@ -250,9 +268,11 @@ int32_t pci_descriptor_step(const uint8_t *bytes, size_t length, size_t at, stru
     return (int32_t)found;
 }
 
-int32_t pci_hook_interrupt(struct pci_board *board, uint32_t handle, uint32_t handler, uint32_t parameter) {
+int32_t pci_hook_interrupt(struct pci_board *board, uint32_t handle, uint32_t handler,
+                           uint32_t parameter) {
     CALL(board, OP_HOOK_INTERRUPT, .handle = handle, .a = handler, .b = parameter);
-    int32_t number = bios_hook_interrupt(board->header, board->records, board->hooks, handle, handler, parameter);
+    int32_t number = bios_hook_interrupt(board->header, board->records, board->hooks, handle,
+                                         handler, parameter);
     ANSWER(board, number, number != 0, 0);
     return number;
 }
@@ -264,9 +284,10 @@ int32_t pci_unhook_interrupt(struct pci_board *board, uint32_t handle) {
     return number;
 }
 
-int32_t pci_list_chain(const struct pci_board *board, uint32_t line, uint32_t index, uint32_t *handle,
-                       uint32_t *handler, uint32_t *parameter) {
-    LENT({board, sizeof *board}, {handle, sizeof *handle}, {handler, sizeof *handler}, {parameter, sizeof *parameter});
+int32_t pci_list_chain(const struct pci_board *board, uint32_t line, uint32_t index,
+                       uint32_t *handle, uint32_t *handler, uint32_t *parameter) {
+    LENT({board, sizeof *board}, {handle, sizeof *handle}, {handler, sizeof *handler},
+         {parameter, sizeof *parameter});
     CALL(board, OP_LIST_CHAIN, .a = line, .b = index);
     uint64_t values[6];
     int32_t number = bios_list_chain(board->records, board->hooks, line, index, values);
@@ -277,7 +298,8 @@ int32_t pci_list_chain(const struct pci_board *board, uint32_t line, uint32_t in
     return number;
 }
 
-int32_t pci_get_card_used(const struct pci_board *board, uint32_t handle, uint32_t *status, uint32_t *callback) {
+int32_t pci_get_card_used(const struct pci_board *board, uint32_t handle, uint32_t *status,
+                          uint32_t *callback) {
     LENT({board, sizeof *board}, {status, sizeof *status}, {callback, sizeof *callback});
     CALL(board, OP_GET_CARD_USED, .handle = handle);
     int32_t number = bios_get_card_used(board->header, board->used, handle, status, callback);
@@ -285,7 +307,8 @@ int32_t pci_get_card_used(const struct pci_board *board, uint32_t handle, uint32
     return number;
 }
 
-int32_t pci_set_card_used(struct pci_board *board, uint32_t handle, uint32_t status, uint32_t callback) {
+int32_t pci_set_card_used(struct pci_board *board, uint32_t handle, uint32_t status,
+                          uint32_t callback) {
     CALL(board, OP_SET_CARD_USED, .handle = handle, .a = status, .b = callback);
     int32_t number = bios_set_card_used(board->header, board->used, handle, status, callback);
     ANSWER(board, number, number != 0, 0);

@@ -1,13 +1,15 @@
-/* The calls of pci_driver.h over those of pci_bios.h: the current board, and pointers instead of numbers. */
+/* The calls of pci_driver.h over those of pci_bios.h: the current board, and pointers where
+   a board has numbers. */
 #include <string.h>
 #include "pci_bios.h"
 #include "pci_driver.h"
 
 enum space { MEMORY, IO };
 
-/* What is kept for a function; a board keeps 32 bits where drivers hand over pointers. A function has at most one hook
-   and one call-back, so its handle is the token that the board is given for them. They count only while the board has
-   that token: what an unhook, a load or a reset takes from the board is gone here too. */
+/* What is kept for a function; a board keeps 32 bits where drivers hand over pointers. A function
+   has at most one hook and one call-back, so its handle is the token that the board is given for
+   them. They count only while the board has that token: what an unhook, a load or a reset takes
+   from the board is gone here too. */
 static struct kept {
     pci_handler *routine;
     void *parameter;
@@ -26,7 +28,8 @@ void pci_use_board(struct pci_board *new_board, uint8_t *new_cells, size_t new_l
     memset(kept, 0, sizeof kept);
 }
 
-/* The entry of a handle. Those that calls take are 1 to 16; of any other the entry is not looked at. */
+/* The entry of a handle. Those that calls take are 1 to 16; of any other the entry is not
+   looked at. */
 static struct kept *kept_of(ULONG handle) {
     return &kept[(handle - 1) % 16];
 }
@@ -101,7 +104,8 @@ LONG unhook_interrupt(LONG handle) {
     return pci_unhook_interrupt(board, (uint32_t)handle);
 }
 
-LONG pci_list_handlers(ULONG line, ULONG index, LONG *handle, pci_handler **routine, void **parameter) {
+LONG pci_list_handlers(ULONG line, ULONG index, LONG *handle, pci_handler **routine,
+                       void **parameter) {
     uint32_t hooked, token, same;
     LONG number = pci_list_chain(board, line, index, &hooked, &token, &same);
     *handle = (LONG)hooked;
@@ -132,7 +136,8 @@ intptr_t get_resource(LONG handle) {
     if (number != PCI_SUCCESSFUL)
         return number;
     for (size_t i = 0; pci_descriptor_step(bytes, sizeof bytes, at, &d, &at) == 1; i++)
-        to[i] = (struct resource_descriptor){d.next, d.flags, d.start, d.length, d.offset, d.dmaoffset};
+        to[i] =
+            (struct resource_descriptor){d.next, d.flags, d.start, d.length, d.offset, d.dmaoffset};
     return (intptr_t)to;
 }
 
@@ -153,17 +158,21 @@ LONG set_card_used(LONG handle, pci_callback *callback) {
     return number;
 }
 
-static LONG read_data(enum space space, unsigned width, LONG handle, ULONG address, uint32_t *value) {
-    return pci_read_data(board, cells, cells_length, space, width, (uint32_t)handle, address, value);
+static LONG read_data(enum space space, unsigned width, LONG handle, ULONG address,
+                      uint32_t *value) {
+    return pci_read_data(board, cells, cells_length, space, width, (uint32_t)handle, address,
+                         value);
 }
 
 static LONG write_data(enum space space, unsigned width, LONG handle, ULONG address, ULONG data) {
-    return pci_write_data(board, cells, cells_length, space, width, (uint32_t)handle, address, data);
+    return pci_write_data(board, cells, cells_length, space, width, (uint32_t)handle, address,
+                          data);
 }
 
 static ULONG fast_read_data(enum space space, unsigned width, LONG handle, ULONG address) {
     int fault;
-    return pci_fast_read_data(board, cells, cells_length, space, width, (uint32_t)handle, address, &fault);
+    return pci_fast_read_data(board, cells, cells_length, space, width, (uint32_t)handle, address,
+                              &fault);
 }
 
 LONG read_mem_byte(LONG handle, ULONG address, UBYTE *data) {

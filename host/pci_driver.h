@@ -1,13 +1,15 @@
-/* The PCI BIOS as drivers call it, on a current board of the model. Link pci_driver.c and what pci_bios.h names. */
+/* The PCI BIOS as drivers call it, on a current board of the model. Link pci_driver.c and what
+   pci_bios.h names. */
 #ifndef PCI_DRIVER_H
 #define PCI_DRIVER_H
 
 #include <stddef.h>
 #include <stdint.h>
 
-/* Names and types are those of document 003; where it gives no prototype they follow its others and the registers of
-   documents 000 and 001. The calls are plain functions: the cookie's table, the register parameters and supervisor mode
-   are the machine's. This layer keeps one current board, so it is for one thread; pci_bios.h takes any board. */
+/* Names and types are those of document 003; where it gives no prototype they follow its others and
+   the registers of documents 000 and 001. The calls are plain functions: the cookie's table, the
+   register parameters and supervisor mode are the machine's. This layer keeps one current board, so
+   it is for one thread; pci_bios.h takes any board. */
 
 /* A driver that has these types defines PCI_DRIVER_TYPES; they must have 32, 32, 16 and 8 bits. */
 #ifndef PCI_DRIVER_TYPES
@@ -39,22 +41,23 @@ typedef char pci_driver_words[sizeof(UWORD) == 2 && sizeof(UBYTE) == 1 ? 1 : -1]
 #define FLG_32BIT 0x0400
 #define FLG_ENDMASK 0x000F
 
-/* 20 bytes. The fields are numbers of this machine, as a driver reads them on the 68000; so is `next`, from here to the
-   next descriptor. */
+/* 20 bytes. The fields are numbers of this machine, as a driver reads them on the 68000; so is
+   `next`, from here to the next descriptor. */
 struct resource_descriptor {
     UWORD next, flags;
     ULONG start, length, offset, dmaoffset;
 };
 
-/* An interrupt handler and a call-back entry. Document 003 passes code as ULONG *, which C99 has no conversion for. */
+/* An interrupt handler and a call-back entry. Document 003 passes code as ULONG *, which C99 has
+   no conversion for. */
 typedef LONG pci_handler(LONG *value, LONG internal);
 typedef LONG pci_callback(LONG function);
 
 struct pci_board;
 
-/* Makes a board the current one, with the cells that were lent to its load; NULL is the empty board, as at the start.
-   The caller loads, resets and keeps it. Pointers that were kept for hooks and call-backs are forgotten: what the board
-   has of them already is listed with NULL. */
+/* Makes a board the current one, with the cells that were lent to its load; NULL is the empty
+   board, as at the start. The caller loads, resets and keeps it. Pointers that were kept for hooks
+   and call-backs are forgotten: what the board has of them already is listed with NULL. */
 void pci_use_board(struct pci_board *board, uint8_t *cells, size_t cells_length);
 
 /* A handle, or PCI_DEVICE_NOT_FOUND. */
@@ -74,24 +77,28 @@ LONG write_config_byte(LONG handle, UBYTE reg, UBYTE val);
 LONG write_config_word(LONG handle, UBYTE reg, UWORD val);
 LONG write_config_longword(LONG handle, UBYTE reg, ULONG val);
 
-/* The model calls no handler. The parameter is a ULONG * in document 003; any pointer to an object will do. */
+/* The model calls no handler. The parameter is a ULONG * in document 003; any pointer to an
+   object will do. */
 LONG hook_interrupt(LONG handle, pci_handler *routine, void *parameter);
 LONG unhook_interrupt(LONG handle);
 
-/* Not of the BIOS: the hook with this index on a line's chain, from 0, as pci_list_chain gives it; NULL where refused. */
-LONG pci_list_handlers(ULONG line, ULONG index, LONG *handle, pci_handler **routine, void **parameter);
+/* Not of the BIOS: the hook with this index on a line's chain, from 0, as pci_list_chain gives
+   it; NULL where refused. */
+LONG pci_list_handlers(ULONG line, ULONG index, LONG *handle, pci_handler **routine,
+                       void **parameter);
 
-/* Not supported: always PCI_FUNC_NOT_SUPPORTED. The texts leave the parameters of the last two open. */
+/* Not supported: always PCI_FUNC_NOT_SUPPORTED. The texts leave the parameters of the last
+   two open. */
 LONG special_cycle(UBYTE bus, ULONG data);
 LONG get_routing(void);
 LONG set_interrupt(void);
 
-/* The address of the first descriptor, or an error, which is negative. Document 003 has a LONG, into which not every
-   address fits; on a machine of 32 bits it must be below 2^31. The descriptors stay until the next call for the same
-   handle. */
+/* The address of the first descriptor, or an error, which is negative. Document 003 has a LONG,
+   into which not every address fits; on a machine of 32 bits it must be below 2^31. The descriptors
+   stay until the next call for the same handle. */
 intptr_t get_resource(LONG handle);
 
-/* The status 0 to 3 of a card or an error; the call-back entry, which only status 2 has, else NULL. */
+/* The status 0 to 3 of a card or an error; the call-back entry where the status is 2, else NULL. */
 LONG get_card_used(LONG handle, pci_callback **callback);
 
 /* Sets status 2 with this call-back entry; one of these instead of it sets status 0, 1 or 3. */

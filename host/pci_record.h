@@ -1,4 +1,5 @@
-/* What pci_bios.c tells a recorder of each call. Callers use pci_trace.h, whose recorder is the only one. */
+/* What pci_bios.c tells a recorder of each call. Callers use pci_trace.h, whose recorder is
+   the only one. */
 #ifndef PCI_RECORD_H
 #define PCI_RECORD_H
 

@@ -3,7 +3,8 @@
 #include "pci_record.h"
 #include "pci_trace.h"
 
-/* What a call can reach: no window's cell lies further, and a longer image is refused for its length alone. */
+/* What a call can reach: no window's cell lies further, and a longer image is refused for
+   its length alone. */
 #define CELLS_KEPT 65536
 #define OWN_KEPT 65537
 
@@ -21,7 +22,8 @@ static size_t at_most(size_t most, size_t length) {
 }
 
 /* A header and the bytes after it: 1 where the stream took both. */
-static int put(FILE *stream, const uint8_t *header, size_t header_length, const void *bytes, size_t length) {
+static int put(FILE *stream, const uint8_t *header, size_t header_length, const void *bytes,
+               size_t length) {
     return fwrite(header, 1, header_length, stream) == header_length &&
            (length == 0 || fwrite(bytes, 1, length, stream) == length);
 }
@@ -34,7 +36,8 @@ static int put_start(FILE *stream, const uint8_t *cells, size_t length) {
 }
 
 static int put_call(FILE *stream, const struct pci_call *call, size_t own_length) {
-    uint8_t header[HEADER_BYTES] = {(uint8_t)call->operation, (uint8_t)call->width, call->io != 0, call->reg};
+    uint8_t header[HEADER_BYTES] = {(uint8_t)call->operation, (uint8_t)call->width, call->io != 0,
+                                    call->reg};
     put_big(header + 4, 4, call->handle);
     put_big(header + 8, 4, call->a);
     put_big(header + 12, 4, call->b);
@@ -42,7 +45,8 @@ static int put_call(FILE *stream, const struct pci_call *call, size_t own_length
     return put(stream, header, sizeof header, call->own.start, own_length);
 }
 
-static int put_answer(FILE *stream, const struct pci_answer *answer, const void *own, size_t own_length) {
+static int put_answer(FILE *stream, const struct pci_answer *answer, const void *own,
+                      size_t own_length) {
     uint8_t header[HEADER_BYTES] = {0};
     put_big(header, 4, (uint32_t)answer->number);
     header[4] = answer->refused != 0;
@@ -52,7 +56,8 @@ static int put_answer(FILE *stream, const struct pci_answer *answer, const void 
     return put(stream, header, sizeof header, own, own_length);
 }
 
-/* A script can say no other width; with one a call is refused before all else and is no call of a run. */
+/* A script can say no other width; with one a call is refused before all else and is
+   no call of a run. */
 static int in_script(const struct pci_call *call) {
     int has_width = OP_READ_CONFIG <= call->operation && call->operation <= OP_WRITE_DATA;
     return !has_width || call->width == 1 || call->width == 2 || call->width == 4;
@@ -60,8 +65,8 @@ static int in_script(const struct pci_call *call) {
 
 /* Whether a call lends the trace's cells, if any; all empty buffers are the same. */
 static int same_cells(const struct pci_trace *trace, const struct pci_lent *cells) {
-    return cells == NULL ||
-           (cells->length == trace->cells_length && (cells->length == 0 || cells->start == trace->cells));
+    return cells == NULL || (cells->length == trace->cells_length &&
+                             (cells->length == 0 || cells->start == trace->cells));
 }
 
 static void record_call(struct pci_trace *trace, const struct pci_call *call) {
@@ -69,7 +74,8 @@ static void record_call(struct pci_trace *trace, const struct pci_call *call) {
         return;
     trace->own = call->own.start;
     trace->own_length = at_most(OWN_KEPT, call->own.length);
-    trace->complete = same_cells(trace, call->cells) && put_call(trace->calls, call, trace->own_length);
+    trace->complete =
+        same_cells(trace, call->cells) && put_call(trace->calls, call, trace->own_length);
     trace->in_call = trace->complete;
 }
 
@@ -117,9 +123,10 @@ static int taken(const struct pci_trace *trace, const struct pci_board *board) {
     return 0;
 }
 
-int pci_trace_start(struct pci_trace *trace, const struct pci_board *board, const uint8_t *cells, size_t cells_length,
-                    FILE *calls, FILE *answers) {
-    if (taken(trace, board) || !all_zero(board) || !put_start(calls, cells, at_most(CELLS_KEPT, cells_length)))
+int pci_trace_start(struct pci_trace *trace, const struct pci_board *board, const uint8_t *cells,
+                    size_t cells_length, FILE *calls, FILE *answers) {
+    if (taken(trace, board) || !all_zero(board) ||
+        !put_start(calls, cells, at_most(CELLS_KEPT, cells_length)))
         return -1;
     *trace = (struct pci_trace){.next = started,
                                 .board = board,

@@ -1,6 +1,7 @@
 #!/bin/sh
-# Performs the lists of calls in tests/cases/ by the program `replay` and compares what it prints with the answers that stand beside the calls.
-# The images are those that windows.sh makes of boards/; REPLAY names another program to run.
+# Performs the lists of calls in tests/cases/ by the program `replay` and compares what it prints
+# with the answers that stand beside the calls. The images are those that windows.sh makes of
+# boards/; REPLAY names another program to run.
 set -eu
 cd "$(dirname "$0")/.."
 replay=${REPLAY:-target/bin/replay}
@@ -17,7 +18,8 @@ calls=0
 for source in tests/cases/*.calls; do
     at=$made/$(basename "$source" .calls)
     grep -v '^#' "$source" | grep ' = ' > "$at.expected" || fail "$source has no answers"
-    [ "$(grep -c '^[a-z_]*(' "$source")" = "$(wc -l < "$at.expected")" ] || fail "$source: a call has no answer"
+    [ "$(grep -c '^[a-z_]*(' "$source")" = "$(wc -l < "$at.expected")" ] ||
+        fail "$source: a call has no answer"
     calls=$((calls + $(wc -l < "$at.expected")))
     echo "$(wc -l < "$at.expected") calls" >> "$at.expected"
     "$make_trace" < "$source" > "$at.trace" || fail "$source makes no trace"

@@ -1,12 +1,19 @@
 #!/bin/sh
-# Compiles what is written in C against the proved static library and runs it: the first use and the incident, compared with their stored outputs, the tests of both layers
-# and of traces, a library whose board is another than the header's, and calls that are lent overlapping memory. The sanitizers see the C, not the library.
+# Compiles what is written in C against the proved static library and runs it: the first use and the
+# incident, compared with their stored outputs, the tests of both layers and of traces, a library
+# whose board is another than the header's, and calls that are lent overlapping memory. The
+# sanitizers see the C, not the library.
 set -eu
 cd "$(dirname "$0")/.."
 mkdir -p target/host
 image=crates/windows/stdin
 flags="-std=c99 -Wall -Wextra -Wpedantic -Werror -Ihost"
 checks="-g -fsanitize=address,undefined -fno-sanitize-recover=all"
+
+fail() {
+    echo "host: $1"
+    exit 1
+}
 
 # build NAME FLAGS SOURCE ..: the program target/host/NAME.
 build() {
@@ -20,15 +27,16 @@ same() {
     name=$1 stored=$2 status=0
     shift 2
     target/host/"$name" "$@" < "$image" > target/host/"$name".out || status=$?
-    diff "$stored" target/host/"$name".out || { echo "host: the output of $name differs (< stored, > printed)"; exit 1; }
-    [ $status = 0 ] || { echo "host: $name ended with status $status"; exit 1; }
+    diff "$stored" target/host/"$name".out ||
+        fail "the output of $name differs (< stored, > printed)"
+    [ $status = 0 ] || fail "$name ended with status $status"
 }
 
 # aborts PROGRAM ARGUMENT: that it does, with status 134.
 aborts() {
     status=0
     (ulimit -c 0; target/host/"$1" "$2"; exit $?) > target/host/"$1".out 2>&1 || status=$?
-    [ $status = 134 ] || { echo "host: $1 $2 ended with status $status"; exit 1; }
+    [ $status = 134 ] || fail "$1 $2 ended with status $status"
 }
 
 build first "" host/first.c
@@ -47,33 +55,44 @@ echo "host: the incident on B1, equal, plain and with sanitizers, recorded and n
 glue="host/tests/check.c host/tests/test_*.c host/tests/rerun.c host/pci_driver.c host/pci_trace.c"
 for kind in glue glue-checked; do
     if [ $kind = glue ]; then build $kind "" $glue; else build $kind "$checks" $glue; fi
-    target/host/$kind target/host/incident.trace < "$image" > target/host/$kind.out || { echo "host: tests of the calls from C ($kind)"; cat target/host/$kind.out; exit 1; }
+    target/host/$kind target/host/incident.trace < "$image" > target/host/$kind.out || {
+        echo "host: tests of the calls from C ($kind)"
+        cat target/host/$kind.out
+        exit 1
+    }
 done
-echo "host: the calls from C and their traces, $(tail -n 1 target/host/glue.out), plain and with sanitizers"
+counts=$(tail -n 1 target/host/glue.out)
+echo "host: the calls from C and their traces, $counts, plain and with sanitizers"
 
 # with_types LONG: a driver's source that has its own types, compiled.
 with_types() {
-    printf 'typedef %s LONG; typedef unsigned %s ULONG; typedef unsigned short UWORD; typedef unsigned char UBYTE;\n#define PCI_DRIVER_TYPES\n#include "%s"\n' \
-        "$1" "$1" host/examples/sizer.c > target/host/types.c
+    {
+        echo "typedef $1 LONG; typedef unsigned $1 ULONG;"
+        echo "typedef unsigned short UWORD; typedef unsigned char UBYTE;"
+        echo "#define PCI_DRIVER_TYPES"
+        echo '#include "host/examples/sizer.c"'
+    } > target/host/types.c
     cc $flags -I. -c target/host/types.c -o target/host/types.o
 }
-with_types int || { echo "host: a driver's own types were refused"; exit 1; }
-! with_types "long long" 2> target/host/types.out || { echo "host: types of 64 bits were taken"; exit 1; }
+with_types int || fail "a driver's own types were refused"
+! with_types "long long" 2> target/host/types.out || fail "types of 64 bits were taken"
 echo "host: a driver's own types of 32 bits are taken, of 64 bits are not"
 
-# The test's test_part_bytes stands in for the library's bios_part_bytes and has the part of that number longer than it is; with `none` the load must go on.
+# The test's test_part_bytes stands in for the library's bios_part_bytes and has the part of that
+# number longer than it is; with `none` the load must go on.
 build layout "-DNDEBUG -Dbios_part_bytes=test_part_bytes" host/tests/layout.c
-target/host/layout none || { echo "host: the layout of the board was refused"; exit 1; }
+target/host/layout none || fail "the layout of the board was refused"
 for part in 0 1 2 3 4 5 6 7; do
     aborts layout $part
-    grep -q '^pci_load: .* bytes in pci_bios.h and .* in the library$' target/host/layout.out || { echo "host: part $part, no message"; exit 1; }
+    grep -q '^pci_load: .* bytes in pci_bios.h and .* in the library$' target/host/layout.out ||
+        fail "part $part, no message"
 done
 echo "host: a library whose board has another layout, caught for each part"
 
 # Each call must abort; status 0 says that it came back, 2 that there is no call of that number.
 build overlap "" host/tests/overlap.c
 build overlap-release -DNDEBUG host/tests/overlap.c
-target/host/overlap 0 || { echo "host: memory that is apart was refused"; exit 1; }
+target/host/overlap 0 || fail "memory that is apart was refused"
 calls=26
 for call in $(seq $calls); do
     aborts overlap "$call"

@@ -1,11 +1,14 @@
 #!/bin/sh
-# Tries what pages say: tests/page.sh PAGE .. . In a page a file stands after `<!-- file NAME -->`, and commands with what they print after `<!-- run -->`, each indented by
-# four spaces up to the next line that is not. The commands are run in a folder of their own, where the repository's folders are at hand, and the output compared.
+# Tries what pages say: tests/page.sh PAGE .. . In a page a file stands after `<!-- file NAME -->`,
+# and commands with what they print after `<!-- run -->`, each indented by four spaces up to the
+# next line that is not. The commands are run in a folder of their own, where the repository's
+# folders are at hand, and the output compared.
 set -eu
 cd "$(dirname "$0")/.."
 root=$PWD
 
-# prepare PAGE: the empty folder target/page, with the page's files, its commands in `run`, and the folders that they name.
+# prepare PAGE: the empty folder target/page, with the page's files, its commands in `run`, and the
+# folders that they name.
 prepare() {
     rm -rf target/page
     mkdir -p target/page/target
@@ -32,6 +35,9 @@ perform() {
 for page in "$@"; do
     prepare "$page"
     (cd target/page && perform > printed)
-    diff target/page/run target/page/printed || { echo "page: $page differs (< page, > printed)"; exit 1; }
+    diff target/page/run target/page/printed || {
+        echo "page: $page differs (< page, > printed)"
+        exit 1
+    }
     echo "page: $page, $(grep -c '^\$ ' target/page/run) commands, equal"
 done

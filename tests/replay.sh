@@ -1,6 +1,7 @@
 #!/bin/sh
-# Makes the trace of every list of calls in tests/replay/, runs the program `replay` on it and compares with the stored output.
-# REPLAY names another program to run; the makers are those that tests/run builds.
+# Makes the trace of every list of calls in tests/replay/, runs the program `replay` on it and
+# compares with the stored output. REPLAY names another program to run; the makers are those that
+# tests/run builds.
 set -eu
 cd "$(dirname "$0")/.."
 replay=${REPLAY:-target/bin/replay}
@@ -39,8 +40,11 @@ same tests/replay/opening-cut.out crates/windows/stdin
 printf 'PCIU\0\0\0\1\0\0\0\0' > "$made/magic.trace"
 same tests/replay/opening-cut.out "$made/magic.trace"
 # The stored standard input of the program's own run is B1's trace.
-cmp crates/replay/stdin "$made/b1.trace" || fail "crates/replay/stdin is not the trace of tests/replay/b1.calls"
+cmp crates/replay/stdin "$made/b1.trace" ||
+    fail "crates/replay/stdin is not the trace of tests/replay/b1.calls"
 # A source that is none ends the maker with a fault.
-! echo 'reset' | "$makers/make_trace" > "$made/none.trace" 2> "$made/none.fault" || fail "make_trace takes a source that is none"
-[ "$(cat "$made/none.fault")" = 'make_trace: 1: `reset` is no statement' ] || fail "make_trace says: $(cat "$made/none.fault")"
+! echo 'reset' | "$makers/make_trace" > "$made/none.trace" 2> "$made/none.fault" ||
+    fail "make_trace takes a source that is none"
+[ "$(cat "$made/none.fault")" = 'make_trace: 1: `reset` is no statement' ] ||
+    fail "make_trace says: $(cat "$made/none.fault")"
 echo "replay: $traces traces, equal"

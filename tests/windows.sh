@@ -1,6 +1,7 @@
 #!/bin/sh
-# Makes the image of every board in boards/, runs the program `windows` on it and compares with the board's stored output.
-# WINDOWS names another program to run; make_board is the one that tests/run builds.
+# Makes the image of every board in boards/, runs the program `windows` on it and compares with the
+# board's stored output. WINDOWS names another program to run; make_board is the one that tests/run
+# builds.
 set -eu
 cd "$(dirname "$0")/.."
 windows=${WINDOWS:-target/bin/windows}
@@ -24,11 +25,14 @@ for board in boards/*.board; do
     name=$(basename "$board" .board)
     made=target/boards/$name
     "$make_board" "$board" > "$made.image" || fail "$board makes no image"
-    # The paper leaves the exit status open; 126 and above are a program that did not run or was stopped by a signal.
-    "$windows" < "$made.image" > "$made.out" || [ $? -lt 126 ] || fail "$board: the program was stopped"
+    # The paper leaves the exit status open; 126 and above are a program that did not run or was
+    # stopped by a signal.
+    "$windows" < "$made.image" > "$made.out" || [ $? -lt 126 ] ||
+        fail "$board: the program was stopped"
     diff "boards/$name.out" "$made.out" || fail "$board: the output differs (< stored, > printed)"
     boards=$((boards + 1))
 done
 # The stored standard input of the program's own run is B1's image.
-cmp crates/windows/stdin target/boards/b1.image || fail "crates/windows/stdin is not the image of boards/b1.board"
+cmp crates/windows/stdin target/boards/b1.image ||
+    fail "crates/windows/stdin is not the image of boards/b1.board"
 echo "windows: $boards boards, equal"

@@ -1,6 +1,6 @@
-/* The incident, replayed on board B1, whose image is on standard input: two sizers on one line, and a stray sample that
-   is sized as bin 256 of card one, which by address is bin 0 of card two. A trace of all calls goes to the file that
-   the argument names, where there is one. */
+/* The incident, replayed on board B1, whose image is on standard input: two sizers on one line, and
+   a stray sample that is sized as bin 256 of card one, which by address is bin 0 of card two. A
+   trace of all calls goes to the file that the argument names, where there is one. */
 #include <inttypes.h>
 #include <stdio.h>
 #include <string.h>
@@ -11,7 +11,8 @@
 #define LINE 5
 
 static struct pci_board board;
-static uint8_t image[65537], cells[1024 + 1024 + 16]; /* as many cells as B1's windows have; a trace keeps them all */
+static uint8_t image[65537];
+static uint8_t cells[1024 + 1024 + 16]; /* as many as B1's windows have; a trace keeps them all */
 static struct sizer cards[2];
 static const char *const names[2] = {"card one", "card two"};
 
@@ -20,7 +21,8 @@ static void interrupt(void) {
     LONG handle, internal = 0;
     pci_handler *routine;
     void *parameter;
-    for (ULONG index = 0; pci_list_handlers(LINE, index, &handle, &routine, &parameter) == 0; index++)
+    for (ULONG index = 0; pci_list_handlers(LINE, index, &handle, &routine, &parameter) == 0;
+         index++)
         internal = routine(parameter, internal);
 }
 
@@ -29,7 +31,8 @@ static void show_line(void) {
     pci_handler *routine;
     void *parameter;
     printf("line %d calls", LINE);
-    for (ULONG index = 0; pci_list_handlers(LINE, index, &handle, &routine, &parameter) == 0; index++)
+    for (ULONG index = 0; pci_list_handlers(LINE, index, &handle, &routine, &parameter) == 0;
+         index++)
         printf("%s handle %" PRId32, index == 0 ? "" : ",", handle);
     printf("\n");
 }
@@ -59,8 +62,8 @@ static int open_cards(void) {
         LONG error = sizer_open(&cards[card], (UWORD)card);
         if (error != PCI_SUCCESSFUL)
             return printf("%s: error %" PRId32 "\n", names[card], error), -1;
-        printf("%s: handle %" PRId32 ", %d bins from %08" PRIx32 "\n", names[card], cards[card].handle, SIZER_BINS,
-               cards[card].bins);
+        printf("%s: handle %" PRId32 ", %d bins from %08" PRIx32 "\n", names[card],
+               cards[card].handle, SIZER_BINS, cards[card].bins);
     }
     return 0;
 }
@@ -87,9 +90,10 @@ static int run(void) {
     sample(0, 256);
     if (read_bins(0, after[0]) != 0 || read_bins(1, after[1]) != 0)
         return 1;
-    for (int card = 0; card < 2; card++)
-        printf("%s's bins %s\n", names[card],
-               memcmp(before[card], after[card], sizeof after[card]) == 0 ? "are as they were" : "HAVE CHANGED");
+    for (int card = 0; card < 2; card++) {
+        int same = memcmp(before[card], after[card], sizeof after[card]) == 0;
+        printf("%s's bins %s\n", names[card], same ? "are as they were" : "HAVE CHANGED");
+    }
     LONG one = sizer_close(&cards[0]), two = sizer_close(&cards[1]);
     printf("closed: %" PRId32 " and %" PRId32 "\n", one, two);
     return 0;
@@ -98,7 +102,8 @@ static int run(void) {
 int main(int argc, char **argv) {
     static struct pci_trace trace;
     FILE *calls = argc > 1 ? fopen(argv[1], "wb") : NULL;
-    if (argc > 1 && (calls == NULL || pci_trace_start(&trace, &board, cells, sizeof cells, calls, NULL) != 0))
+    if (argc > 1 &&
+        (calls == NULL || pci_trace_start(&trace, &board, cells, sizeof cells, calls, NULL) != 0))
         return fprintf(stderr, "%s: no trace can be written\n", argv[1]), 1;
     int status = run();
     if (calls != NULL && (pci_trace_end(&trace) != 0 || fclose(calls) != 0))

@@ -6,11 +6,13 @@ LONG sizer_read(const struct sizer *card, ULONG bin, ULONG *samples) {
     return read_mem_longword(card->handle, card->bins + 4 * bin, samples);
 }
 
-/* The fault of the incident stands here on purpose: nothing asks whether the card has such a bin. Document 003 has the
-   fast reads for interrupts; what they give for a bin that is not there is no number of samples. */
+/* The fault of the incident stands here on purpose: nothing asks whether the card has such a bin.
+   Document 003 has the fast reads for interrupts; what they give for a bin that is not there is
+   no number of samples. */
 static LONG count_sample(const struct sizer *card, ULONG bin) {
     ULONG address = card->bins + 4 * bin;
-    return write_mem_longword(card->handle, address, fast_read_mem_longword(card->handle, address) + 1);
+    return write_mem_longword(card->handle, address,
+                              fast_read_mem_longword(card->handle, address) + 1);
 }
 
 /* Both cards share a line, so each handler first asks whether the interrupt is its card's. */
@@ -23,10 +25,12 @@ static LONG sizer_interrupt(LONG *value, LONG internal) {
     return internal | 1;
 }
 
-/* The first memory window that is accessible, takes longwords and has room for the bins, or NULL. */
+/* The first memory window that is accessible, takes longwords and has room for the bins; or NULL
+   where there is none. */
 static const struct resource_descriptor *find_bins(const struct resource_descriptor *rsc) {
     for (;;) {
-        if (!(rsc->flags & RSC_IO) && (rsc->flags & FLG_32BIT) && rsc->start != 0 && rsc->length >= 4 * SIZER_BINS)
+        if (!(rsc->flags & RSC_IO) && (rsc->flags & FLG_32BIT) && rsc->start != 0 &&
+            rsc->length >= 4 * SIZER_BINS)
             return rsc;
         if ((rsc->flags & RSC_LAST) || rsc->next == 0)
             return NULL;
@@ -41,7 +45,8 @@ LONG sizer_open(struct sizer *card, UWORD index) {
     intptr_t resources = get_resource(handle);
     if (resources < 0)
         return (LONG)resources;
-    const struct resource_descriptor *bins = find_bins((const struct resource_descriptor *)resources);
+    const struct resource_descriptor *bins =
+        find_bins((const struct resource_descriptor *)resources);
     if (bins == NULL)
         return PCI_GENERAL_ERROR;
     *card = (struct sizer){handle, bins->start, SIZER_NO_SAMPLE, PCI_SUCCESSFUL};

@@ -1,4 +1,5 @@
-/* A driver for the particle sizer: a card that keeps 256 bins of one longword each in its memory window. */
+/* A driver for the particle sizer: a card that keeps 256 bins of one longword each in its
+   memory window. */
 #ifndef SIZER_H
 #define SIZER_H
 

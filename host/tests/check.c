@@ -1,5 +1,5 @@
-/* The tests of the calls for C on board B1, whose image is on standard input; the argument is the file with the trace
-   of the incident. The last line has the counts. */
+/* The tests of the calls for C on board B1, whose image is on standard input; the argument is the
+   file with the trace of the incident. The last line has the counts. */
 #include <inttypes.h>
 #include <stdio.h>
 #include <string.h>
@@ -32,7 +32,8 @@ void keep_state(void) {
 }
 
 static int same_state(void) {
-    return memcmp(&kept_board, &board, sizeof board) == 0 && memcmp(kept_cells, cells, sizeof cells) == 0;
+    return memcmp(&kept_board, &board, sizeof board) == 0 &&
+           memcmp(kept_cells, cells, sizeof cells) == 0;
 }
 
 void check_same(const char *file, int line, const char *what) {

@@ -1,4 +1,5 @@
-/* Checks of the tests in C: a line for each that fails. Boards and cells are one set, kept beside for comparison. */
+/* Checks of the tests in C: a line for each that fails. Boards and cells are one set, kept
+   beside for comparison. */
 #ifndef CHECK_H
 #define CHECK_H
 
@@ -7,7 +8,8 @@
 extern struct pci_board board;
 extern uint8_t cells[65536];
 
-/* B1's image, with the offset 1000h and the dmaoffset 2000h for handle 2 so that no two fields of it are equal. */
+/* B1's image, with the offset 1000h and the dmaoffset 2000h for handle 2 so that no two fields
+   of it are equal. */
 extern uint8_t image[1100];
 
 /* A board of 16 functions, each as handle 1 of B1. */
@@ -17,17 +19,20 @@ extern uint8_t sixteen[16 * 544 + 12];
 #define GIVES(wanted, call) check(__FILE__, __LINE__, #call, wanted, (int64_t)(call))
 
 /* The same, and the call leaves board and cells as they were. */
-#define LEAVES(wanted, call) (keep_state(), GIVES(wanted, call), check_same(__FILE__, __LINE__, #call))
+#define LEAVES(wanted, call) \
+    (keep_state(), GIVES(wanted, call), check_same(__FILE__, __LINE__, #call))
 
 /* The same, and the call changes board or cells. */
-#define ALTERS(wanted, call) (keep_state(), GIVES(wanted, call), check_altered(__FILE__, __LINE__, #call))
+#define ALTERS(wanted, call) \
+    (keep_state(), GIVES(wanted, call), check_altered(__FILE__, __LINE__, #call))
 
 void check(const char *file, int line, const char *what, int64_t wanted, int64_t got);
 void check_same(const char *file, int line, const char *what);
 void check_altered(const char *file, int line, const char *what);
 void keep_state(void);
 
-/* Loads the image; the cells are filled with AAh before, so that those past the total are not zero. */
+/* Loads the image; the cells are filled with AAh before, so that those past the total
+   are not zero. */
 void load_fresh(void);
 
 void test_bios(void);

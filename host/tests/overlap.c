@@ -1,5 +1,5 @@
-/* Lends overlapping memory to one call, chosen by its number on the command line: a debug build must abort in it. The
-   status is 0 where the call came back, 2 where there is no call of that number. */
+/* Lends overlapping memory to one call, chosen by its number on the command line: a debug build
+   must abort in it. The status is 0 where the call came back, 2 where no call has that number. */
 #include <stdlib.h>
 #include "pci_bios.h"
 
@@ -13,20 +13,21 @@ static int fault;
 /* Buffers against each other, against the board, and without an address. */
 static int buffers(int number) {
     uint8_t *inside = board.records + 100;
+    void *in_descriptor = &descriptor;
     switch (number) {
-    case 1: return pci_check_image(cells, sizeof cells, (uint32_t *)(void *)(cells + 60)), 1;
+    case 1: return pci_check_image(cells, sizeof cells, (void *)(cells + 60)), 1;
     case 2: return pci_load(&board, cells, 32, cells + 31, 20, &place), 1;
     case 3: return pci_load(&board, cells + 31, 20, cells, 32, &place), 1;
     case 4: return pci_load(&board, inside, 20, cells, 32, &place), 1;
-    case 5: return pci_load(&board, cells, 32, cells + 32, 32, (uint32_t *)(void *)cells), 1;
+    case 5: return pci_load(&board, cells, 32, cells + 32, 32, (void *)cells), 1;
     case 6: return pci_reset(&board, inside, 1), 1;
     case 7: return pci_write_image(&board, inside, 1), 1;
     case 8: return pci_get_resource(&board, 1, inside, 1), 1;
     case 9: return pci_write_data(&board, inside, 1, 0, 4, 1, 0, 0), 1;
-    case 10: return pci_read_data(&board, cells, sizeof cells, 0, 4, 1, 0, (uint32_t *)(void *)cells), 1;
-    case 11: return pci_fast_read_data(&board, cells, sizeof cells, 0, 4, 1, 0, (int *)(void *)cells), 1;
-    case 12: return pci_descriptor_step(cells, sizeof cells, 0, (struct pci_descriptor *)(void *)cells, &following), 1;
-    case 13: return pci_descriptor_step(cells, sizeof cells, 0, &descriptor, (size_t *)(void *)&descriptor), 1;
+    case 10: return pci_read_data(&board, cells, sizeof cells, 0, 4, 1, 0, (void *)cells), 1;
+    case 11: return pci_fast_read_data(&board, cells, sizeof cells, 0, 4, 1, 0, (void *)cells), 1;
+    case 12: return pci_descriptor_step(cells, sizeof cells, 0, (void *)cells, &following), 1;
+    case 13: return pci_descriptor_step(cells, sizeof cells, 0, &descriptor, in_descriptor), 1;
     case 14: return pci_write_image(&board, NULL, 1), 1;
     case 15: return pci_check_image(NULL, 1, &place), 1;
     default: return 0;
@@ -35,10 +36,11 @@ static int buffers(int number) {
 
 /* Results that go into the board, and two results that go into one variable. */
 static int results(int number) {
+    void *in_board = board.header;
     switch (number) {
-    case 16: return pci_list_window(&board, 0, (struct pci_window *)(void *)board.registers), 1;
+    case 16: return pci_list_window(&board, 0, (void *)board.registers), 1;
     case 17: return pci_read_config(&board, 4, 1, 0, board.header), 1;
-    case 18: return pci_fast_read_config(&board, 4, 1, 0, (int *)(void *)&board.used[31]), 1;
+    case 18: return pci_fast_read_config(&board, 4, 1, 0, (void *)&board.used[31]), 1;
     case 19: return pci_bus_to_cpu(&board, 1, 0, board.hooks), 1;
     case 20: return pci_cpu_to_bus(&board, 1, 0, board.hooks), 1;
     case 21: return pci_list_chain(&board, 5, 0, &other, &value, &value), 1;
@@ -46,7 +48,7 @@ static int results(int number) {
     case 23: return pci_get_card_used(&board, 1, &value, &value), 1;
     case 24: return pci_get_card_used(&board, 1, &value, &board.used[1]), 1;
     case 25: return pci_read_data(&board, cells, sizeof cells, 0, 4, 1, 0, board.header), 1;
-    case 26: return pci_fast_read_data(&board, cells, sizeof cells, 0, 4, 1, 0, (int *)(void *)board.header), 1;
+    case 26: return pci_fast_read_data(&board, cells, sizeof cells, 0, 4, 1, 0, in_board), 1;
     default: return 0;
     }
 }

@@ -6,8 +6,9 @@
 #include "pci_bios.h"
 
 struct rerun {
-    uint8_t script[1 << 19], answers[1 << 19]; /* the script as it was recorded, and as its run left it */
-    size_t length, stop;                       /* of both; where the run stopped */
+    uint8_t script[1 << 19];  /* as it was recorded */
+    uint8_t answers[1 << 19]; /* the script as its run left it */
+    size_t length, stop;      /* of both; where the run stopped */
     struct pci_board board;
     uint8_t cells[65536];
     size_t cells_length;

@@ -1,4 +1,5 @@
-/* Boards that a caller altered, read as document 01 says under "What the promises say"; and walks over descriptor bytes. */
+/* Boards that a caller altered, read as document 01 says under "What the promises say"; and walks
+   over descriptor bytes. */
 #include <string.h>
 #include "check.h"
 
@@ -11,7 +12,8 @@ static void refresh(void) {
     GIVES(0, pci_write_config(&board, 1, 1, 0x04, 0x03));
 }
 
-static void window_is(uint32_t n, int io, uint32_t start, uint32_t length, uint32_t handle, uint32_t base) {
+static void window_is(uint32_t n, int io, uint32_t start, uint32_t length, uint32_t handle,
+                      uint32_t base) {
     struct pci_window window;
     GIVES(0, pci_list_window(&board, n, &window));
     GIVES(io, window.io);
@@ -59,14 +61,16 @@ static void test_one_of_two(void) {
     LEAVES(-9, pci_read_config(&board, 1, 2, 0x00, &value));
 }
 
-/* "k outside 2..16 as no window": exponents 0, 1, 2, 16, 17, 255, in the list and in the descriptors. */
+/* "k outside 2..16 as no window": exponents 0, 1, 2, 16, 17, 255, in the list and in
+   the descriptors. */
 static void test_exponents(void) {
     static const uint8_t exponents[] = {0, 1, 2, 16, 17, 255};
     uint8_t out[60];
     load_fresh();
     for (uint32_t base = 0; base < 6; base++) {
         board.records[ENTRY(0, base) + EXPONENT] = exponents[base];
-        memcpy(&board.registers[0x10 + 4 * base], (uint8_t[4]){0, 0, (uint8_t)(0x10 * (base + 1)), 0}, 4);
+        memcpy(&board.registers[0x10 + 4 * base],
+               (uint8_t[4]){0, 0, (uint8_t)(0x10 * (base + 1)), 0}, 4);
     }
     refresh();
     window_is(0, 0, 0x00300000, 4, 1, 2);
@@ -120,7 +124,8 @@ static void test_pin_gone(void) {
     LEAVES(-8, pci_hook_interrupt(&board, 2, 1, 2));
 }
 
-/* How many steps a walk makes over bytes that are zero but for the first descriptor's next field and flags. */
+/* How many steps a walk makes over bytes that are zero but for the first descriptor's
+   next field and flags. */
 static int steps(size_t length, uint8_t next_high, uint8_t next, uint8_t flags) {
     uint8_t bytes[60] = {next_high, next, flags};
     struct pci_descriptor descriptor;
@@ -131,7 +136,8 @@ static int steps(size_t length, uint8_t next_high, uint8_t next, uint8_t flags) 
     return made;
 }
 
-/* "it stops where 20 bytes do not remain, and after a descriptor with the last mark or with next below 20". */
+/* "it stops where 20 bytes do not remain, and after a descriptor with the last mark or with
+   next below 20". */
 static void test_walks(void) {
     GIVES(2, steps(60, 0, 20, 0));
     GIVES(2, steps(60, 0, 24, 0));

@@ -168,7 +168,8 @@ static void test_conversions(void) {
     GIVES(0, value);
 }
 
-static void check_step(size_t length, size_t at, struct pci_descriptor wanted, int32_t number, size_t end) {
+static void check_step(size_t length, size_t at, struct pci_descriptor wanted, int32_t number,
+                       size_t end) {
     struct pci_descriptor got = {9, 9, 9, 9, 9, 9};
     size_t following = 99;
     GIVES(number, pci_descriptor_step(length == 0 ? NULL : out, length, at, &got, &following));
@@ -187,14 +188,15 @@ static void test_descriptors(void) {
     LEAVES(0, pci_get_resource(&board, 2, out, sizeof out));
     GIVES(1, bytes_are(out + 40, sizeof out - 40, 0xAA));
     GIVES(20, out[1]);
-    check_step(40, 0, (struct pci_descriptor){20, 0x0701, 0x80000400, 0x400, 0x1000, 0x2000}, 1, 20);
+    check_step(40, 0, (struct pci_descriptor){20, 0x0701, 0x80000400, 0x400, 0x1000, 0x2000}, 1,
+               20);
     check_step(60, 20, (struct pci_descriptor){20, 0xC102, 0x100, 0x10, 0x1000, 0x2000}, 1, 60);
     check_step(40, 21, none, 0, 21);
     check_step(0, 0, none, 0, 0);
 }
 
-static void check_chain(uint32_t line, uint32_t index, int32_t number, uint32_t handle, uint32_t handler,
-                        uint32_t parameter) {
+static void check_chain(uint32_t line, uint32_t index, int32_t number, uint32_t handle,
+                        uint32_t handler, uint32_t parameter) {
     uint32_t got[3] = {9, 9, 9};
     LEAVES(number, pci_list_chain(&board, line, index, &got[0], &got[1], &got[2]));
     GIVES(handle, got[0]);

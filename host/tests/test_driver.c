@@ -1,4 +1,5 @@
-/* Every call of pci_driver.h, accepted and refused, and the pointers that it keeps for hooks and call-backs. */
+/* Every call of pci_driver.h, accepted and refused, and the pointers that it keeps for hooks
+   and call-backs. */
 #include <string.h>
 #include "check.h"
 #include "pci_driver.h"
@@ -122,7 +123,8 @@ static void test_io_bytes(void) {
     LEAVES(0xFFFFFFFF, fast_read_io_longword(2, 0x100));
 }
 
-/* The same window, loaded with all widths: byte 2 of the entry of base register 1 of handle 2. Order 2 turns bytes. */
+/* The same window, loaded with all widths: byte 2 of the entry of base register 1 of handle 2.
+   Order 2 turns bytes. */
 static void test_io_wide(void) {
     uint32_t place, sum_at = sizeof image - 1;
     image[544 + 512 + 4 + 2] += 6;
@@ -143,7 +145,8 @@ static void test_io_wide(void) {
     LEAVES(0x5566, fast_read_io_word(2, 0x106));
 }
 
-static void check_resource(const struct resource_descriptor *got, UWORD flags, ULONG start, ULONG length) {
+static void check_resource(const struct resource_descriptor *got, UWORD flags, ULONG start,
+                           ULONG length) {
     GIVES(20, got->next);
     GIVES(flags, got->flags);
     GIVES(start, got->start);
@@ -175,7 +178,8 @@ static void test_resources(void) {
 }
 
 /* The hook with this index on line 5, with NULL for an index that is refused. */
-static void check_hook(ULONG index, LONG number, LONG handle, pci_handler *routine, void *parameter) {
+static void check_hook(ULONG index, LONG number, LONG handle, pci_handler *routine,
+                       void *parameter) {
     LONG got_handle = 9;
     pci_handler *got_routine = first_handler;
     void *got_parameter = &byte;
@@ -279,7 +283,8 @@ static void test_used(void) {
     check_used(2, 0, NULL);
 }
 
-/* A call-back that was not set here has no pointer, nor has a refusal, whatever other functions have. */
+/* A call-back that was not set here has no pointer, nor has a refusal, whatever other
+   functions have. */
 static void test_foreign_callbacks(void) {
     uint32_t place;
     GIVES(0, pci_load(&board, cells, sizeof cells, sixteen, sizeof sixteen, &place));

@@ -1,4 +1,5 @@
-/* Runs that are recorded: performed again as scripts they must give the same answers and leave the same board. */
+/* Runs that are recorded: performed again as scripts they must give the same answers and leave
+   the same board. */
 #include <string.h>
 #include "check.h"
 #include "pci_driver.h"
@@ -29,22 +30,26 @@ static void start(struct recording *r, size_t cells_length) {
     GIVES(0, pci_trace_start(&r->trace, &r->board, r->cells, cells_length, r->calls, r->answers));
 }
 
-/* Whether a second run of the script gives the answers that stand in `answers`, and stops at its end. */
+/* Whether a second run of the script gives the answers that stand in `answers`, and stops
+   at its end. */
 static int same_answers(size_t length) {
     rerun_perform(&rerun);
-    return rerun.stop == rerun.length && rerun.length == length && memcmp(rerun.answers, answers, length) == 0;
+    return rerun.stop == rerun.length && rerun.length == length &&
+           memcmp(rerun.answers, answers, length) == 0;
 }
 
-/* Ends a recording, which must be complete, and compares: answers, board, cells. `rerun` keeps the second run. */
+/* Ends a recording, which must be complete, and compares: answers, board, cells. `rerun` keeps
+   the second run. */
 static void check_replays(struct recording *r) {
     size_t cells_kept = r->cells_length < 65536 ? r->cells_length : 65536;
+    size_t board_bytes = offsetof(struct pci_board, used) + sizeof r->board.used;
     GIVES(0, pci_trace_end(&r->trace));
     size_t length = read_all(r->answers, answers, sizeof answers);
     memset(&rerun, 0xEE, sizeof rerun);
     GIVES(1, rerun_read(&rerun, r->calls));
     GIVES((int64_t)cells_kept, rerun.cells_length);
     GIVES(1, same_answers(length));
-    GIVES(0, memcmp(&rerun.board, &r->board, offsetof(struct pci_board, used) + sizeof r->board.used));
+    GIVES(0, memcmp(&rerun.board, &r->board, board_bytes));
     GIVES(0, memcmp(rerun.cells, r->cells, cells_kept));
     fclose(r->calls);
     fclose(r->answers);
@@ -160,8 +165,8 @@ static void make_every_call(struct recording *r) {
     make_used_calls(r);
 }
 
-/* In a run reset is never refused, as the load has refused cells that are too short; the last three always are. Of
-   three buffers of some 70,000 bytes 65,537 are kept; five more are not empty. */
+/* In a run reset is never refused, as the load has refused cells that are too short; the last three
+   always are. Of three buffers of some 70,000 bytes 65,537 are kept; five more are not empty. */
 static void test_every_call(void) {
     start(&one, 2064);
     make_every_call(&one);
@@ -194,8 +199,8 @@ static LONG callback(LONG function) {
     return function;
 }
 
-/* By the driver's layer; what is written first are the cells of a fresh load, so that no answer is 0 for want of one.
- */
+/* By the driver's layer; what is written first are the cells of a fresh load, so that no answer
+   is 0 for want of one. */
 static void test_driver_calls(void) {
     LONG parameter, handle;
     pci_handler *routine;
@@ -226,7 +231,8 @@ static void test_driver_calls(void) {
     GIVES(2, rerun_count(&rerun, 0, 1));
 }
 
-/* Three boards by turns; the calls without a board are in every trace, and an ended one does not disturb the others. */
+/* Three boards by turns; the calls without a board are in every trace, and an ended one does
+   not disturb the others. */
 static void test_several_boards(void) {
     start(&one, 2064);
     start(&two, 3000);
@@ -246,7 +252,8 @@ static void test_several_boards(void) {
     GIVES(7, rerun_count(&rerun, 0, 0) + rerun_count(&rerun, 0, 1));
 }
 
-/* Whether the comparison finds a byte of the recorded answers changed, one after the other, and a changed argument. */
+/* Whether the comparison finds a byte of the recorded answers changed, one after the other, and
+   a changed argument. */
 static void test_comparison(void) {
     start(&one, 2064);
     load(&one);

@@ -43,8 +43,9 @@ static size_t calls_in(FILE *stream) {
 static void test_used_boards(void) {
     FILE *stream = tmpfile();
     clear();
-    void *const parts[] = {board.header,       board.records, board.registers, board.windows,
-                           board.cell_offsets, board.hooks,   board.used,      (uint8_t *)(&board.used + 1) - 1};
+    void *const parts[] = {
+        board.header,       board.records, board.registers, board.windows,
+        board.cell_offsets, board.hooks,   board.used,      (uint8_t *)(&board.used + 1) - 1};
     for (size_t i = 0; i < sizeof parts / sizeof parts[0]; i++) {
         *(uint8_t *)parts[i] = 1;
         GIVES(-1, pci_trace_start(&trace, &board, cells, 2064, stream, NULL));
@@ -150,8 +151,8 @@ static void test_failing_start(void) {
     fclose(unwritable);
 }
 
-/* A stream that fails in a call: its answer and errno are as they are without a trace. The image of 16 functions is
-   longer than the stream's buffer. */
+/* A stream that fails in a call: its answer and errno are as they are without a trace. The image of
+   16 functions is longer than the stream's buffer. */
 static void test_failing_call(void) {
     FILE *full = full_stream(_IOFBF), *none = full_stream(_IONBF), *stream = tmpfile();
     clear();
@@ -195,8 +196,9 @@ void test_trace_refused(void) {
     test_failing_end();
 }
 
-/* The stray sample's fast read and write are refused, and the listings of the line past its two hooks, one for each
-   interrupt and one for the list of handlers; the bins are in the cells as the example printed them. */
+/* The stray sample's fast read and write are refused, and the listings of the line past its two
+   hooks, one for each interrupt and one for the list of handlers; the bins are in the cells as the
+   example printed them. */
 void test_incident(const char *path) {
     static const uint8_t sample[4] = {0, 0, 0, 1}, samples[4] = {0, 0, 0, 2};
     FILE *stream = fopen(path, "rb");
