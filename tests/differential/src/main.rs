@@ -1,4 +1,5 @@
-//! `differential RUNS [SEED] [--tally]`: the proved code against `second`, on sweeps and random runs.
+//! `differential RUNS [SEED] [--tally]`: the proved code against `second`, on sweeps and random
+//! runs.
 #![deny(unsafe_op_in_unsafe_fn)]
 
 mod access;

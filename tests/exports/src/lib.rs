@@ -1,4 +1,4 @@
-//! The C functions of the proved library, as host/pci_bios.c declares them too, the run of a
+//! The C functions of the proved library, as host/bios_library.h declares them too, the run of a
 //! script, and the lent parts that they take.
 
 use second::{FUNCTIONS, RECORD_LENGTH, WINDOWS};
@@ -167,7 +167,7 @@ extern "C" {
         records: *const Records,
         hooks: *const Hooks,
         line: u32,
-        place: u32,
+        index: u32,
         values: *mut [u64; 6],
     ) -> i32;
     pub fn bios_get_card_used(

@@ -15,7 +15,8 @@ enum Place {
 }
 use Place::*;
 
-/// Name, operation, space and arguments of each call. A name that ends in `_` goes on with its width.
+/// Name, operation, space and arguments of each call. A name that ends in `_` goes on with its
+/// width.
 const CALLS: &[(&str, u8, u8, &[Place])] = &[
     ("load", 1, 0, &[Own]),
     ("reset", 2, 0, &[]),

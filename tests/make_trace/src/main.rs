@@ -1,4 +1,5 @@
-//! `make_trace < SOURCE > TRACE`: writes the trace that a source of tests/replay/ describes; paths in it are from the working directory.
+//! `make_trace < SOURCE > TRACE`: writes the trace that a source of tests/replay/ describes; paths
+//! in it are from the working directory.
 #![forbid(unsafe_code)]
 
 mod call;
