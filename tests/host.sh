@@ -100,4 +100,4 @@ done
 echo "host: $calls calls that are lent overlapping memory, all caught"
 
 # What the pages say, tried.
-sh tests/page.sh docs/DRIVERS.md docs/TRACE.md
+sh tests/page.sh README.md docs/DRIVERS.md docs/TRACE.md
