@@ -21,14 +21,14 @@ module _ (records : List ℕ) (i : ℕ) where
   written-length zero register value registers = refl
   written-length (suc w) register value registers = written-length w (register + 1) (value / 256) _ ∙ length-set registers _ _
 
-  -- a byte that is written changes no other place of any function
+  -- a byte that is written changes no other register of any function
   byte-elsewhere : (register new : ℕ) (registers : List ℕ) (j at : ℕ) → register < registersEach → at < registersEach
       → (j ≡ i → at ≡ register → ⊥) → registerByte (byteWritten records i register new registers) j at ≡ registerByte registers j at
   byte-elsewhere register new registers j at h k apart =
       getD-set-other registers (registersEach * i + register) (registersEach * j + at) _ 0
       (λ e. let f : j ≡ i = omega arith in let g : at ≡ register = omega arith in apart f g)
 
-  -- a place that is not addressed is kept, whatever room there is
+  -- a register that is not addressed is kept, whatever room there is
   pub written-elsewhere : (w register value : ℕ) (registers : List ℕ) (j at : ℕ) → register + w ≤ registersEach → at < registersEach
       → (j ≡ i → register ≤ at → at < register + w → ⊥)
       → registerByte (bytesWritten w records i register value registers) j at ≡ registerByte registers j at
@@ -83,8 +83,8 @@ masked-write w records i register value registers h room =
         let same = eqb-true j i (one .0) in
         let from = leb-true register at (two .0) in
         let to = ltb-true at (register + w) (two .1) in
-        let place : register + (at - register) ≡ at = omega arith in
-        rw same (rw place at (written-here records i w (at - register) register value registers (omega arith) h room))
+        let there : register + (at - register) ≡ at = omega arith in
+        rw same (rw there at (written-here records i w (at - register) register value registers (omega arith) h room))
     by j at k false t =
         written-elsewhere records i w register value registers j at h k
         (λ e l u. true≢false (sym (simp (eq-eqb j i e, le-leb register at l, lt-ltb at (register + w) u)) ∙ t))

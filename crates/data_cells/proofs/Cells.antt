@@ -32,7 +32,7 @@ ordered-back order w value = by (eqb order 2)
     by true = rw (mod-eq-of-lt (reversed-below w value)) (reversed-back w value)
     by false = refl
 
--- THEOREM: a read after a write of the same width at the same target gives the value written
+-- THEOREM: a read after a write of the same width at the same cells gives the value written
 pub read-back : ReadBack
 read-back order w at value cells h = ap (ordered order w) (stored-value w at (ordered order w value) cells h) ∙ ordered-back order w value
 

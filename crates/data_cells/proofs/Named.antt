@@ -17,7 +17,7 @@ unfolding cellTargetOf
 found-only records offsets room w p q (Found base distance remaining) h = rw (h base distance remaining refl)
 found-only records offsets room w p q (Refused r) h = refl
 
--- so the target for what is found is the access's, whatever the function's target is given as for a number that is no handle
+-- so the target for what is found is the access's, whatever the function's place is given as for a number that is no handle
 pub target-named : (header records windows offsets : List ℕ) (w room space handle address function : ℕ) (finding : Finding) (target : CellTarget)
     → finding ≡ findIn w header records windows offsets room space handle address
     → (0 < handle → function ≡ handle - 1)

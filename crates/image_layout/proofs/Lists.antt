@@ -8,7 +8,7 @@ use lib.Seq.{drop-cons, take-all}
 use Rattle.board.specs.Layout.{functionsMax}
 use Rattle.image_layout.specs.Image.{imageRecord, sum}
 
--- the part from the place below i is one element more than the part from i
+-- the part from the position below i is one element more than the part from i
 pub drop-pred : (s : List ℕ) (i : ℕ) → 0 < i → i ≤ length s → drop (i - 1) s ≡ getD s (i - 1) 0 ∷ drop i s
 drop-pred s zero p h = absurd (omega arith)
 drop-pred s (suc j) p h =

@@ -20,7 +20,7 @@ none : (f : ℕ → ℕ) (at : ℕ) → little 0 f at ≡ 0
 unfolding little
 none f at = refl
 
--- one place on, said two ways
+-- one position on, said two ways
 next : (at i : ℕ) → at + 1 + i ≡ at + suc i
 next at i = omega arith
 
@@ -38,7 +38,7 @@ little-same (suc w) f g a b same =
     let first : f a % 256 ≡ g b % 256 = rw (add-zero a, add-zero b) at (same 0 (omega arith)) in
     rw (first, little-same w f g (a + 1) (b + 1) (λ i h. rw (next a i, next b i) (same (suc i) (omega arith))))
 
--- the bytes from a place may be taken to stand at 0
+-- the bytes from a position may be taken to stand at 0
 pub little-from : (w : ℕ) (f : ℕ → ℕ) (at : ℕ) → little w f at ≡ little w (λ i. f (at + i)) 0
 little-from w f at = little-same w f (λ i. f (at + i)) at 0 (λ i h. rw zero-add)
 
@@ -137,7 +137,7 @@ big-bytes w v before after =
     rw (getD-append-add before (bigBytes w v ++ after) i 0, List·getD-append (bigBytes w v) after 0 i k, table-get 0 w (λ j. v / 256 ^ (w - suc j) % 256) i h) (omega arith))
     ∙ big-of w v
 
--- the w bytes of the number that a list holds at a place are the list's bytes there
+-- the w bytes of the number that a list holds at a position are the list's bytes there
 pub bytes-big : (w : ℕ) (l : List ℕ) (at : ℕ) → ((i : ℕ) → byteAt l i < 256) → at + w ≤ length l
     → bigBytes w (big w (byteAt l) at) ≡ take w (drop at l)
 bytes-big w l at small h =

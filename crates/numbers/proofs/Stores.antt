@@ -13,12 +13,12 @@ use Rattle.numbers.specs.Numbers.{bigBytes, reversed}
 use Rattle.numbers.proofs.Numbers.{reversed-digit}
 use Rattle.numbers.proofs.Tables.{table-length}
 
--- from a place past the end on nothing is stored
+-- from a position past the end on nothing is stored
 pub sets-out : (l : List ℕ) (i : ℕ) (vs : List ℕ) → length l ≤ i → sets l i vs ≡ l
 sets-out l i [] h = refl
 sets-out l i (v ∷ vs) h = rw (set-out l i v h) (sets-out l (suc i) vs (omega arith))
 
--- a run of stores changes no place outside it
+-- a run of stores changes no position outside it
 pub sets-other : (l : List ℕ) (i : ℕ) (vs : List ℕ) (j : ℕ) → (j < i) ⊎ (i + length vs ≤ j) → getD (sets l i vs) j 0 ≡ getD l j 0
 sets-other l i [] j h = refl
 sets-other l i (v ∷ vs) j h =

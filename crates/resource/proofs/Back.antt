@@ -22,7 +22,7 @@ use Rattle.window_start.proofs.Starts.{start-small}
 use Rattle.resource_descriptor.proofs.Fields.{shown-small}
 use Rattle.window.proofs.Exponents.{window-range}
 
--- a number of w bytes in a list, m places after others
+-- a number of w bytes in a list, m positions after others
 field : (w v m : ℕ) (l before mid after : List ℕ) → v < 256 ^ w → length mid ≡ m → l ≡ before ++ (mid ++ (bigBytes w v ++ after))
     → big w (byteAt l) (length before + m) ≡ v
 field w v m l before mid after h e q =

@@ -68,7 +68,7 @@ pub answer-length : (a : Answer) (own : ℕ) → length (answerBytes a own) ≡ 
 unfolding answerBytes tableFrom
 answer-length a own = refl
 
--- the header's place in a script whose own buffer came back
+-- the header's position in a script whose own buffer came back
 pub header-room : (l rest : List ℕ) → callHeaderSize ≤ length l → callHeaderSize ≤ length (take callHeaderSize l ++ rest)
 header-room l rest h = rw (length-append, length-take-le callHeaderSize l h) (omega arith)
 

@@ -117,8 +117,8 @@ module _ (count : ℕ) (k r : ℕ → ℕ → ℕ) where
         ),
   )
 
-  place : (w : Window) → In w (listOf count k r) ↔ ((v : Window) × In v opens × (w ≡ withMark (mark v) v))
-  place w =
+  from-open : (w : Window) → In w (listOf count k r) ↔ ((v : Window) × In v opens × (w ≡ withMark (mark v) v))
+  from-open w =
       rw list-is (
         λ i.
             let t = in-map (λ v. withMark (mark v) v) w (sorted opens) .0 i in
@@ -134,7 +134,7 @@ module _ (count : ℕ) (k r : ℕ → ℕ → ℕ) where
   unfolding opens
   listed w = (
     λ i.
-        let t = place w .0 i in
+        let t = from-open w .0 i in
         let o = in-open k r count (t .0) (t .1) in
         let d = as-marked (t .0) (mark (t .0)) (o .0) in
         let b = mark-is (withMark (mark (t .0)) (t .0)) d in
@@ -144,13 +144,13 @@ module _ (count : ℕ) (k r : ℕ → ℕ → ℕ) where
         let b = mark-is w (p .0) in
         let e : w .contested ≡ mark (withMark false w) = bool-same _ _ (λ h. b .1 (p .1 .0 h)) (λ h. p .1 .1 (b .0 h)) in
         let d : w ≡ withMark (mark (withMark false w)) (withMark false w) = rw (← e) in
-        place w .1 (withMark false w, open-in k r count w (p .0), d),
+        from-open w .1 (withMark false w, open-in k r count w (p .0), d),
   )
 
   once : (w : Window) → In w (listOf count k r) → howMany (sameRegister w) (listOf count k r) ≡ 1
   unfolding opens openWindows
   once w i =
-      let t = place w .0 i in
+      let t = from-open w .0 i in
       let e : howMany (sameRegister (t .0)) (sorted opens) ≡ 1 =
       many-sorted (sameRegister (t .0)) opens ∙ one-of (t .0) opens (t .1) (apart-slots k r (6 * count)) in
       rw (list-is, t .2, many-map (withMark (mark (t .0)) (t .0)) mark (sorted opens)) e

@@ -14,7 +14,7 @@ use Rattle.window.specs.Kept.{unpack, isEnd, unpacked}
 use Rattle.window_listing.specs.Listing.{inSpace, foundWindow, listing, listingNumber, listingValues, listedNumber, listedValues, Lists}
 use Rattle.window.proofs.Unpacked.{unpacked-none, unpacked-one, unpacked-end}
 
--- counting the windows of a kept list from place j on
+-- counting the windows of a kept list from position j on
 pub counted-none : (l : List ℕ) (j : ℕ) → j < length l → isEnd (getD l j 0) ≡ true → length (unpacked (drop j l)) ≡ 0
 counted-none l j h z = ap length (unpacked-none l j h z)
 
@@ -68,6 +68,6 @@ at (w ∷ l) n h = by (isEnd w) n h (at l)
     by false zero h ih = refl
     by false (suc n) h ih = ih n (omega arith)
 
--- the number at place n says window n
+-- the number at position n says window n
 pub lists-at : (l : List ℕ) (n : ℕ) (r : Listing) → n < length (unpacked l) → r ≡ foundWindow (unpack (getD l n 0)) → Lists (unpacked l) n r
 lists-at l n r h e = lists (unpacked l) n r (e ∙ at l n h)

@@ -1,4 +1,4 @@
--- `records_range`: the definition's two places.
+-- `records_range`: the definition's two positions.
 use borrow.Author.Needs.{needs}
 use Rattle.image_layout.proofs.layout.records_range.Statement.{statement}
 use Rattle.image_layout.proofs.layout.records_range.Tie as tie

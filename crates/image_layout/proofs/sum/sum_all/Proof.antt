@@ -1,4 +1,4 @@
--- `sum_all`: the sum so far is that of the bytes from the place reached.
+-- `sum_all`: the sum so far is that of the bytes from the position reached.
 use Prim.Native.Nat.{_-_, _*_, _≤_, _<_}
 use mathlib.Core.Path.{_≡_}
 use native.Mathlib.Omega.{arith}

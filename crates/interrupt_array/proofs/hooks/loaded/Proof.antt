@@ -1,5 +1,4 @@
 -- `loaded`: a byte of the record at the function's place.
-use mathlib.Core.Path.{_∙_}
 use borrow.Author.Needs.{needs}
 use Rattle.interrupt_array.proofs.hooks.loaded.Statement.{statement}
 use Rattle.interrupt_array.proofs.hooks.loaded.Tie as tie

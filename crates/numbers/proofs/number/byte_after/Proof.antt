@@ -1,4 +1,4 @@
--- `byte_after`: from a place past the end every later place is past the end, where `getD` gives its default, 0.
+-- `byte_after`: from a position past the end every later one is past the end, where `getD` gives its default, 0.
 use mathlib.Core.Path.{sym}
 use lib.ListN.{List·getD-eq-default}
 use borrow.Author.Needs.{needs}

@@ -1,4 +1,4 @@
--- `reversed`: each arm adds the bytes at the places that the definition gives them.
+-- `reversed`: each arm adds the bytes at the positions that the definition gives them.
 use Prim.Native.Nat.{ℕ, _+_, _*_, _/_, _%_, _^_}
 use mathlib.Core.Path.{_≡_}
 use native.Mathlib.Omega.{arith}

@@ -12,9 +12,9 @@ use Rattle.reset.proofs.restart.copy_function.Statement.{statement}
 use Rattle.reset.proofs.restart.copy_function.Tie as tie
 
 -- register i of a function is the byte of its record that the table names
-same-place : (f i : ℕ) → i < registersEach
+same-position : (f i : ℕ) → i < registersEach
     → recordSize * f + i ≡ recordSize * ((registersEach * f + i) / registersEach) + (registersEach * f + i) % registersEach
-same-place f i h =
+same-position f i h =
     let which : (registersEach * f + i) / registersEach ≡ f = omega arith in
     let which-byte : (registersEach * f + i) % registersEach ≡ i = omega arith in
     rw (which, which-byte)
@@ -66,7 +66,7 @@ loop-again c =
       (
         simp length-set (l .inv .1 .0),
         rw next
-            (filled-more _ (registersEach * a .function + l .i) _ (l .registers) (omega (arith, l .inv .1 .0, p .0)) (ap (λ j. getD (a .records .now) j 0) (same-place (a .function) (l .i) t)) (l .inv .1 .1)),
+            (filled-more _ (registersEach * a .function + l .i) _ (l .registers) (omega (arith, l .inv .1 .0, p .0)) (ap (λ j. getD (a .records .now) j 0) (same-position (a .function) (l .i) t)) (l .inv .1 .1)),
       ),
     )
 

@@ -1,4 +1,4 @@
--- `kept_count`: the places passed and the windows from there on come to all windows.
+-- `kept_count`: the positions passed and the windows from there on come to all windows.
 use Prim.Native.Nat.{_+_, _-_, _≤_}
 use mathlib.Core.Path.{_≡_, sym, _∙_}
 use native.Mathlib.Omega.{arith}

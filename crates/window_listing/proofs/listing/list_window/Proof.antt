@@ -1,4 +1,4 @@
--- `list_window`: the count of windows tells the end, and before it the number at the place says the window.
+-- `list_window`: the count of windows tells the end, and before it the number at the index says the window.
 use mathlib.Core.Path.{_∙_}
 use native.Mathlib.Omega.{arith}
 use Rattle.window_listing.proofs.Answers.{lists-past, lists-at}
