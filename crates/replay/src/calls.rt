@@ -3,7 +3,7 @@
 use crate::forms::CALLS;
 use crate::forms::MALFORMED;
 use crate::forms::OWN_ABOVE;
-use crate::forms::line_of;
+use crate::forms::form_line;
 use crate::forms::print;
 use board::layout::CellOffsets;
 use board::layout::FUNCTIONS;
@@ -75,7 +75,7 @@ fn read_call(request: &mut RequestHeader, room: &mut [u8]) -> u32
 // Prints a call that was performed in place.
 fn print_call(request: &RequestHeader, call: &[u8]) {
     let own = big_at(request, OWN_LENGTH, Width::Long);
-    print(line_of(request, call), own as u64, request, call);
+    print(form_line(request, call), own as u64, request, call);
 }
 
 // Prints the last line: with the calls where the script ended, else with the position where the

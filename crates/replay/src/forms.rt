@@ -1,7 +1,7 @@
 // What is printed: a line of one table, in which capital letters stand for numbers. The forms stand
 // there as they come out, so that the program is read beside its output, and one loop fills them
 // all. A call has a line for each width and space, a listed window one for each space and mark;
-// `line_of` works out which, by operation. The first line is empty, as operations count from 1.
+// `form_line` works out which, by operation. The first line is empty, as operations count from 1.
 use crate::descriptors::descriptors;
 use crate::print::decimal;
 use crate::print::hexadecimal;
@@ -191,7 +191,7 @@ N calls
 
 // The line of a call that was answered: by its operation, width and space; of a listed window by
 // its space and mark.
-pub(crate) fn line_of(request: &[u8], call: &[u8]) -> u32 {
+pub(crate) fn form_line(request: &[u8], call: &[u8]) -> u32 {
     let operation = wide(byte_at(request, 0));
     let width = wide(byte_at(request, 1)) / 2;
     let space = wide(byte_at(request, 2));
