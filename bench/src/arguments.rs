@@ -3,9 +3,13 @@
 use crate::boards::{TimedBoard, Window};
 use crate::calls::{AskedWidth, ChainPlace, ConfigCall, DataCall, LONG};
 
-/// The length of a list: short enough to stay in the cache, and too long for a processor to
-/// learn its branches by heart, as it does with a few hundred calls.
-pub const LIST: usize = 4096;
+/// The length of a list: too long for a processor to learn its branches by heart, as some do with
+/// 4,096 calls (bench/README.md). The length costs nothing by itself: both sides read the same list
+/// from its start to its end, and so it is fetched ahead.
+pub const LIST: usize = 65_536;
+
+/// The length of a list of base register moves, each of which takes many branches.
+const MOVES: usize = LIST / 4;
 
 const FIRST_BASE: u8 = 0x10;
 const AFTER_BASES: u8 = 0x28;
@@ -62,7 +66,7 @@ pub fn moves(board: &TimedBoard) -> Vec<ConfigCall> {
             value: place << window.k,
         }
     };
-    (0..LIST).map(call).collect()
+    (0..MOVES).map(call).collect()
 }
 
 /// Any address of any window that offers one of these widths, at one that it offers.
@@ -121,6 +125,7 @@ mod tests {
         for board in [b1(), full()] {
             let config = registers(&board, &WIDTHS);
             let data = addresses(&board, &WIDTHS);
+            let moves = moves(&board);
             for handle in 1..=board.functions() {
                 assert!(config.iter().any(|call| call.handle == handle));
             }
@@ -136,7 +141,7 @@ mod tests {
                     (call.handle, call.space.io) == (window.handle, window.space.io)
                         && call.address >> window.k == window.start >> window.k
                 };
-                assert!(moves(&board).iter().any(moves_it));
+                assert!(moves.iter().any(moves_it));
                 assert!(data.iter().any(meets_it));
             }
         }

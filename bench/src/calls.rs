@@ -57,6 +57,33 @@ pub struct ChainPlace {
     pub place: u32,
 }
 
+/// What a call of the library leaves, beside its number, in memory that its caller lends.
+pub trait Results: Default {
+    /// The values, with zeros after the last.
+    fn values(self) -> [u64; 6];
+}
+
+/// Writes, hooks, reset.
+impl Results for () {
+    fn values(self) -> [u64; 6] {
+        [0; 6]
+    }
+}
+
+/// The value of a read, the place of a load.
+impl Results for u32 {
+    fn values(self) -> [u64; 6] {
+        [self.into(), 0, 0, 0, 0, 0]
+    }
+}
+
+/// A listing of windows or of a chain.
+impl Results for [u64; 6] {
+    fn values(self) -> [u64; 6] {
+        self
+    }
+}
+
 /// All that a call hands back: its number, and its values with zeros after the last.
 #[derive(Clone, Copy, Debug, PartialEq, Eq)]
 pub struct Answer {
@@ -64,55 +91,35 @@ pub struct Answer {
     pub values: [u64; 6],
 }
 
-impl Answer {
-    fn new<const N: usize>(number: i64, given: [u64; N]) -> Self {
-        let mut values = [0; 6];
-        values[..N].copy_from_slice(&given);
-        Answer { number, values }
+/// A call of the library, and a read by `second`.
+impl<R: Results> From<(i32, R)> for Answer {
+    fn from((number, results): (i32, R)) -> Self {
+        Answer { number: number.into(), values: results.values() }
     }
 }
 
-/// A number alone: writes, hooks, reset.
+/// A number alone by `second`: writes, hooks, reset.
 impl From<i32> for Answer {
     fn from(number: i32) -> Self {
-        Answer::new(number.into(), [])
+        (number, ()).into()
     }
 }
 
-/// A read: number and value.
-impl From<(i32, u32)> for Answer {
-    fn from((number, value): (i32, u32)) -> Self {
-        Answer::new(number.into(), [value.into()])
-    }
-}
-
-/// A load by the library: number and place.
-impl From<(u32, u32)> for Answer {
-    fn from((number, place): (u32, u32)) -> Self {
-        Answer::new(number.into(), [place.into()])
-    }
-}
-
+/// A load by `second`.
 impl From<second::Verdict> for Answer {
     fn from(verdict: second::Verdict) -> Self {
-        (verdict.number, verdict.place).into()
-    }
-}
-
-/// A listing by the library, of windows or of a chain.
-impl From<(i32, [u64; 6])> for Answer {
-    fn from((number, values): (i32, [u64; 6])) -> Self {
-        Answer::new(number.into(), values)
+        Answer { number: verdict.number.into(), values: verdict.place.values() }
     }
 }
 
 /// A chain listing by `second`: number, handle, handler, parameter.
 impl From<(i32, u32, u32, u32)> for Answer {
     fn from((number, handle, handler, parameter): (i32, u32, u32, u32)) -> Self {
-        Answer::new(number.into(), [handle.into(), handler.into(), parameter.into()])
+        (number, [handle.into(), handler.into(), parameter.into(), 0, 0, 0]).into()
     }
 }
 
+/// A window listing by `second`.
 impl From<second::Listing> for Answer {
     fn from(listing: second::Listing) -> Self {
         let window = listing.window;
@@ -124,6 +131,6 @@ impl From<second::Listing> for Answer {
             window.base.into(),
             window.contested.into(),
         ];
-        Answer::new(listing.number.into(), values)
+        (listing.number, values).into()
     }
 }

@@ -57,26 +57,30 @@ fn timed_rows(sweeps: usize) -> Result<Vec<Row>, String> {
 
 fn print_conditions(sweeps: usize) {
     let rounds = sweeps * ROUNDS;
-    let alone = loop_alone(&arguments::registers(&boards::b1(), &calls::WIDTHS), 5);
+    let alone = loop_alone(&arguments::registers(&boards::b1(), &calls::WIDTHS));
     println!("Nanoseconds per call, best of {rounds} rounds, of the proved library and of the");
     println!("second implementation. The loop around the calls, {alone:.1}, is in every figure.");
     println!("Machine: {}; {}.", processor(), env!("RUSTC_VERSION"));
     println!();
-    println!("| call | board | proved | second | ratio | calls in a round |");
-    println!("|---|---|---:|---:|---:|---:|");
+    println!("| call | board | proved | second | ratio |");
+    println!("|---|---|---:|---:|---:|");
 }
 
 fn print_row(row: &Row) {
-    let Row { name, board, calls, times } = row;
+    let Row { name, board, times } = row;
     let (proved, second) = (times.proved, times.second);
     let ratio = proved / second;
-    println!("| {name} | {board} | {proved:.1} | {second:.1} | {ratio:.2} | {calls} |");
+    println!("| {name} | {board} | {proved:.1} | {second:.1} | {ratio:.2} |");
 }
 
-/// The processor's name and number, as Linux tells them.
+/// The processor's name, family and model, and how many there are, as Linux tells them.
 fn processor() -> String {
     let info = std::fs::read_to_string("/proc/cpuinfo").unwrap_or_default();
-    let names = info.lines().filter(|line| line.starts_with("model name"));
-    let name = names.clone().next().and_then(|line| line.split(": ").nth(1));
-    format!("{}, {} processors", name.unwrap_or("unknown processor"), names.count())
+    let values = |wanted: &'static str| {
+        let fields = info.lines().filter_map(|line| line.split_once(": "));
+        fields.filter(move |(key, _)| key.trim() == wanted).map(|(_, value)| value)
+    };
+    let first = |wanted| values(wanted).next().unwrap_or("unknown");
+    let (name, family, model) = (first("model name"), first("cpu family"), first("model"));
+    format!("{name} (family {family}, model {model}), {} processors", values("processor").count())
 }

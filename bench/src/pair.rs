@@ -1,6 +1,6 @@
 //! Both sides on the same board: the same calls in both, and their answers compared.
 
-use crate::calls::{Answer, ChainPlace, ConfigCall, LONG};
+use crate::calls::{Answer, ChainPlace, ConfigCall, Results, LONG};
 use crate::model::Second;
 use crate::proved::Proved;
 use second::{FUNCTIONS, WINDOWS};
@@ -21,10 +21,10 @@ impl Pair {
     }
 
     /// Makes each call in both; both must accept it and give the same answer.
-    pub fn accepted<A: Debug, P: Into<Answer>, S: Into<Answer>>(
+    pub fn accepted<A: Debug, R: Results, S: Into<Answer>>(
         &mut self,
         arguments: &[A],
-        proved: impl Fn(&mut Proved, &A) -> P,
+        proved: impl Fn(&mut Proved, &A, &mut R) -> i32,
         second: impl Fn(&mut Second, &A) -> S,
     ) -> Result<(), String> {
         for argument in arguments {
@@ -37,13 +37,15 @@ impl Pair {
     }
 
     /// Makes a call in both; the answer is the one that both gave, accepted or not.
-    fn compared<A: Debug, P: Into<Answer>, S: Into<Answer>>(
+    fn compared<A: Debug, R: Results, S: Into<Answer>>(
         &mut self,
         argument: &A,
-        proved: impl Fn(&mut Proved, &A) -> P,
+        proved: impl Fn(&mut Proved, &A, &mut R) -> i32,
         second: impl Fn(&mut Second, &A) -> S,
     ) -> Result<Answer, String> {
-        let ours: Answer = proved(&mut self.proved, argument).into();
+        let mut results = R::default();
+        let number = proved(&mut self.proved, argument, &mut results);
+        let ours: Answer = (number, results).into();
         let theirs: Answer = second(&mut self.second, argument).into();
         match ours == theirs {
             true => Ok(ours),
@@ -109,7 +111,7 @@ mod tests {
         pair.second.write_config(&ConfigCall { width: LONG, handle: 2, register: 0x3C, value: 6 });
         assert!(pair.same_state().is_err());
         let mut pair = loaded();
-        pair.proved.hook_interrupt(&1);
+        pair.proved.hook_interrupt(&1, &mut ());
         assert!(pair.same_state().is_err());
         let mut pair = loaded();
         pair.second.cells[0] = 1;

@@ -1,4 +1,7 @@
 //! The calls by the proved library. This is the only unsafe code of the bench.
+//!
+//! Each gives its number and leaves its results in memory that is lent to it, which a timed
+//! loop lends once for all its calls: what it would clear and copy is no part of the call.
 
 use crate::calls::{ChainPlace, ConfigCall, DataCall, Image};
 use exports::*;
@@ -31,11 +34,10 @@ impl Proved {
         }
     }
 
-    pub fn load(&mut self, image: &Image) -> (i32, u32) {
-        let mut place = 0;
+    pub fn load(&mut self, image: &Image, place: &mut u32) -> i32 {
         // SAFETY: each pointer is to an array or slice of its type and length, alive and
         // not otherwise used during the call.
-        let number = unsafe {
+        unsafe {
             bios_load(
                 image.0.as_ptr(),
                 image.0.len(),
@@ -48,13 +50,12 @@ impl Proved {
                 &mut self.used,
                 self.cells.as_mut_ptr(),
                 self.cells.len(),
-                &mut place,
+                place,
             )
-        };
-        (number, place)
+        }
     }
 
-    pub fn reset(&mut self, _: &()) -> i32 {
+    pub fn reset(&mut self, _: &(), _: &mut ()) -> i32 {
         // SAFETY: as in `load`.
         unsafe {
             bios_reset(
@@ -71,23 +72,21 @@ impl Proved {
         }
     }
 
-    pub fn read_config(&mut self, call: &ConfigCall) -> (i32, u32) {
-        let mut value = 0;
+    pub fn read_config(&mut self, call: &ConfigCall, value: &mut u32) -> i32 {
         // SAFETY: as in `load`.
-        let number = unsafe {
+        unsafe {
             bios_read_config(
                 &self.header,
                 &self.registers,
                 call.width.bytes,
                 call.handle,
                 call.register,
-                &mut value,
+                value,
             )
-        };
-        (number, value)
+        }
     }
 
-    pub fn write_config(&mut self, call: &ConfigCall) -> i32 {
+    pub fn write_config(&mut self, call: &ConfigCall, _: &mut ()) -> i32 {
         // SAFETY: as in `load`.
         unsafe {
             bios_write_config(
@@ -103,10 +102,9 @@ impl Proved {
         }
     }
 
-    pub fn read_data(&mut self, call: &DataCall) -> (i32, u32) {
-        let mut value = 0;
+    pub fn read_data(&mut self, call: &DataCall, value: &mut u32) -> i32 {
         // SAFETY: as in `load`.
-        let number = unsafe {
+        unsafe {
             bios_read_data(
                 &self.header,
                 &self.records,
@@ -118,13 +116,12 @@ impl Proved {
                 call.width.bytes,
                 call.handle,
                 call.address,
-                &mut value,
+                value,
             )
-        };
-        (number, value)
+        }
     }
 
-    pub fn write_data(&mut self, call: &DataCall) -> i32 {
+    pub fn write_data(&mut self, call: &DataCall, _: &mut ()) -> i32 {
         // SAFETY: as in `load`.
         unsafe {
             bios_write_data(
@@ -143,24 +140,19 @@ impl Proved {
         }
     }
 
-    pub fn hook_interrupt(&mut self, handle: &u32) -> i32 {
+    pub fn hook_interrupt(&mut self, handle: &u32, _: &mut ()) -> i32 {
         let (header, records) = (&self.header, &self.records);
         // SAFETY: as in `load`.
         unsafe { bios_hook_interrupt(header, records, &mut self.hooks, *handle, !handle, *handle) }
     }
 
-    pub fn list_chain(&mut self, at: &ChainPlace) -> (i32, [u64; 6]) {
-        let mut values = [0; 6];
-        let (records, hooks) = (&self.records, &self.hooks);
+    pub fn list_chain(&mut self, at: &ChainPlace, values: &mut [u64; 6]) -> i32 {
         // SAFETY: as in `load`.
-        let number = unsafe { bios_list_chain(records, hooks, at.line, at.place, &mut values) };
-        (number, values)
+        unsafe { bios_list_chain(&self.records, &self.hooks, at.line, at.place, values) }
     }
 
-    pub fn list_window(&mut self, n: &u32) -> (i32, [u64; 6]) {
-        let mut values = [0; 6];
+    pub fn list_window(&mut self, n: &u32, values: &mut [u64; 6]) -> i32 {
         // SAFETY: as in `load`.
-        let number = unsafe { bios_list_window(&self.windows, *n, &mut values) };
-        (number, values)
+        unsafe { bios_list_window(&self.windows, *n, values) }
     }
 }

@@ -2,7 +2,7 @@
 
 use crate::arguments::{addresses, first_hooks, last_hooks, moves, registers, LIST};
 use crate::boards::TimedBoard;
-use crate::calls::{Answer, ChainPlace, ConfigCall, DataCall, LONG, WIDTHS};
+use crate::calls::{Answer, ChainPlace, ConfigCall, DataCall, Results, LONG, WIDTHS};
 use crate::model::Second;
 use crate::pair::Pair;
 use crate::proved::Proved;
@@ -12,7 +12,6 @@ use std::fmt::Debug;
 pub struct Row {
     pub name: &'static str,
     pub board: &'static str,
-    pub calls: usize,
     pub times: Times,
 }
 
@@ -35,25 +34,25 @@ struct Rows<'a> {
 impl Rows<'_> {
     fn config(&mut self) -> Result<(), String> {
         let read = |rows: &mut Self, name, list: &[ConfigCall]| {
-            rows.row(name, list, 5, Proved::read_config, Second::read_config)
+            rows.row(name, list, 1, Proved::read_config, Second::read_config)
         };
-        let write = |rows: &mut Self, name, list: &[ConfigCall], times_over| {
-            rows.row(name, list, times_over, Proved::write_config, Second::write_config)
+        let write = |rows: &mut Self, name, list: &[ConfigCall]| {
+            rows.row(name, list, 1, Proved::write_config, Second::write_config)
         };
         let (long, any) = (registers(self.board, &[LONG]), registers(self.board, &WIDTHS));
         read(self, "configuration read, longword", &long)?;
         read(self, "configuration read, any width", &any)?;
-        write(self, "configuration write, longword", &long, 5)?;
-        write(self, "configuration write, any width", &any, 5)?;
-        write(self, "base register move", &moves(self.board), 1)
+        write(self, "configuration write, longword", &long)?;
+        write(self, "configuration write, any width", &any)?;
+        write(self, "base register move", &moves(self.board))
     }
 
     fn data(&mut self) -> Result<(), String> {
         let read = |rows: &mut Self, name, list: &[DataCall]| {
-            rows.row(name, list, 2, Proved::read_data, Second::read_data)
+            rows.row(name, list, 1, Proved::read_data, Second::read_data)
         };
         let write = |rows: &mut Self, name, list: &[DataCall]| {
-            rows.row(name, list, 2, Proved::write_data, Second::write_data)
+            rows.row(name, list, 1, Proved::write_data, Second::write_data)
         };
         let (long, any) = (addresses(self.board, &[LONG]), addresses(self.board, &WIDTHS));
         read(self, "data read, longword", &long)?;
@@ -64,10 +63,10 @@ impl Rows<'_> {
 
     fn listings(&mut self) -> Result<(), String> {
         let chain = |rows: &mut Self, name, list: &[ChainPlace]| {
-            rows.row(name, list, 2, Proved::list_chain, Second::list_chain)
+            rows.row(name, list, 1, Proved::list_chain, Second::list_chain)
         };
         let window = |rows: &mut Self, name, n| {
-            rows.row(name, &[n; LIST], 2, Proved::list_window, Second::list_window)
+            rows.row(name, &vec![n; LIST], 1, Proved::list_window, Second::list_window)
         };
         chain(self, "chain listing, first place", &first_hooks(self.board))?;
         chain(self, "chain listing, last place", &last_hooks(self.board))?;
@@ -76,25 +75,24 @@ impl Rows<'_> {
     }
 
     fn whole_board(&mut self) -> Result<(), String> {
-        self.row("load", &self.board.images(), 10, Proved::load, Second::load)?;
-        self.row("reset", &[()], 40, Proved::reset, Second::reset)
+        self.row("load", &self.board.images(), 20, Proved::load, Second::load)?;
+        self.row("reset", &[()], 200, Proved::reset, Second::reset)
     }
 
     /// Times the calls of a list on the board as `prepared` leaves it.
-    fn row<A: Debug, P: Into<Answer>, S: Into<Answer>>(
+    fn row<A: Debug, R: Results, S: Into<Answer>>(
         &mut self,
         name: &'static str,
         arguments: &[A],
         times_over: usize,
-        proved: impl Fn(&mut Proved, &A) -> P,
+        proved: impl Fn(&mut Proved, &A, &mut R) -> i32,
         second: impl Fn(&mut Second, &A) -> S,
     ) -> Result<(), String> {
         let times = self
             .prepared()
             .and_then(|mut pair| timed(&mut pair, arguments, times_over, proved, second))
             .map_err(|fault| format!("{name} on {}: {fault}", self.board.name))?;
-        let calls = arguments.len() * times_over;
-        self.rows.push(Row { name, board: self.board.name, calls, times });
+        self.rows.push(Row { name, board: self.board.name, times });
         Ok(())
     }
 
