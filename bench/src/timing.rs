@@ -25,9 +25,9 @@ impl Times {
 /// Rounds of a row in a sweep through all rows.
 pub const ROUNDS: usize = 10;
 
-/// Checks that both sides accept the calls and give the same answers, times them, then
-/// checks it again, with all that the rounds left behind. A round makes the calls of the list
-/// so many times over.
+/// Checks that both sides accept the calls, give the same answers and leave the same boards, times
+/// them, then checks what the rounds left behind and the answers again. A round makes the calls of
+/// the list so many times over.
 pub fn timed<A: Debug, R: Results, S: Into<Answer>>(
     pair: &mut Pair,
     arguments: &[A],
@@ -51,8 +51,8 @@ pub fn timed<A: Debug, R: Results, S: Into<Answer>>(
             best[side] = best[side].min(took);
         }
     }
-    pair.accepted(arguments, &proved, &second)?;
     pair.same_state()?;
+    pair.accepted(arguments, &proved, &second)?;
     let calls = arguments.len() * times_over;
     let [proved, second] = best.map(|took| took.as_nanos() as f64 / calls as f64);
     Ok(Times { proved, second })
@@ -86,4 +86,29 @@ fn pass<S, A, R: Default, N>(
     let took = start.elapsed();
     black_box(&results);
     took
+}
+
+#[cfg(test)]
+mod tests {
+    use super::*;
+    use crate::boards::b1;
+    use crate::calls::{ConfigCall, LONG};
+    use std::cell::Cell;
+
+    /// A wrong write in the last round alone is seen, though all answers are the same.
+    #[test]
+    fn what_a_round_leaves_behind() {
+        let board = b1();
+        let mut pair = Pair::new(board.cells());
+        pair.accepted(&board.images(), Proved::load, Second::load).unwrap();
+        let made = Cell::new(0);
+        let wrong = |second: &mut Second, call: &ConfigCall| {
+            made.set(made.get() + 1);
+            // It is made once before the rounds, then once in each, the uncounted one included.
+            let last = made.get() == 1 + 1 + ROUNDS;
+            second.write_config(&ConfigCall { value: call.value + u32::from(last), ..*call })
+        };
+        let call = ConfigCall { width: LONG, handle: 2, register: 0x3C, value: 6 };
+        assert!(timed(&mut pair, &[call], 1, Proved::write_config, wrong).is_err());
+    }
 }
