@@ -1,7 +1,7 @@
 //! The argument lists of the rows, prepared before anything is timed.
 
 use crate::boards::{TimedBoard, Window};
-use crate::calls::{AskedWidth, ChainPlace, ConfigCall, DataCall, LONG};
+use crate::calls::{AskedWidth, ChainHook, ConfigCall, DataCall, LONG};
 
 /// The length of a list: too long for a processor to learn its branches by heart, as some do with
 /// 4,096 calls (bench/README.md). The length costs nothing by itself: both sides read the same list
@@ -39,18 +39,18 @@ pub fn registers(board: &TimedBoard, widths: &[AskedWidth]) -> Vec<ConfigCall> {
     let mut random = Random::new();
     let call = |_| {
         let width = random.of(widths);
-        let places = (256 - usize::from(AFTER_BASES)) / width.bytes as usize;
+        let registers = (256 - usize::from(AFTER_BASES)) / width.bytes as usize;
         ConfigCall {
             width,
             handle: 1 + random.below(board.functions() as usize) as u32,
-            register: AFTER_BASES + (random.below(places) * width.bytes as usize) as u8,
+            register: AFTER_BASES + (random.below(registers) * width.bytes as usize) as u8,
             value: random.below(1 << 32) as u32,
         }
     };
     (0..LIST).map(call).collect()
 }
 
-/// Any window moved to one of twice as many places as there are windows, so that some meet.
+/// Any window moved to one of twice as many starts as there are windows, so that some meet.
 pub fn moves(board: &TimedBoard) -> Vec<ConfigCall> {
     let mut random = Random::new();
     let lowest = |window: &Window| window.start >> window.k;
@@ -58,12 +58,12 @@ pub fn moves(board: &TimedBoard) -> Vec<ConfigCall> {
         let window = random.of(&board.windows);
         let of_its_kind = |other: &&Window| other.space.io == window.space.io;
         let first = board.windows.iter().filter(of_its_kind).map(lowest).min().unwrap_or(1);
-        let place = first + random.below(2 * board.windows.len()) as u32;
+        let multiple = first + random.below(2 * board.windows.len()) as u32;
         ConfigCall {
             width: LONG,
             handle: window.handle,
             register: FIRST_BASE + 4 * window.base,
-            value: place << window.k,
+            value: multiple << window.k,
         }
     };
     (0..MOVES).map(call).collect()
@@ -94,21 +94,21 @@ pub fn addresses(board: &TimedBoard, widths: &[AskedWidth]) -> Vec<DataCall> {
     (0..LIST).map(call).collect()
 }
 
-/// The first place of each line's chain.
-pub fn first_hooks(board: &TimedBoard) -> Vec<ChainPlace> {
+/// The first hook of each line's chain.
+pub fn first_hooks(board: &TimedBoard) -> Vec<ChainHook> {
     hooks(board, |_| 0)
 }
 
-/// The last place of each line's chain.
-pub fn last_hooks(board: &TimedBoard) -> Vec<ChainPlace> {
+/// The last hook of each line's chain.
+pub fn last_hooks(board: &TimedBoard) -> Vec<ChainHook> {
     hooks(board, |functions| functions - 1)
 }
 
-fn hooks(board: &TimedBoard, place_in: impl Fn(u32) -> u32) -> Vec<ChainPlace> {
+fn hooks(board: &TimedBoard, index_in: impl Fn(u32) -> u32) -> Vec<ChainHook> {
     let mut random = Random::new();
     let call = |_| {
         let (line, functions) = random.of(&board.lines);
-        ChainPlace { line, place: place_in(functions) }
+        ChainHook { line, index: index_in(functions) }
     };
     (0..LIST).map(call).collect()
 }

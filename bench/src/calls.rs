@@ -50,11 +50,11 @@ pub struct DataCall {
     pub value: u32,
 }
 
-/// A place of a line's chain.
+/// A hook of a line's chain, by its index.
 #[derive(Clone, Copy, Debug)]
-pub struct ChainPlace {
+pub struct ChainHook {
     pub line: u32,
-    pub place: u32,
+    pub index: u32,
 }
 
 /// What a call of the library leaves, beside its number, in memory that its caller lends.

@@ -1,6 +1,6 @@
 //! The same calls by the second implementation.
 
-use crate::calls::{ChainPlace, ConfigCall, DataCall, Image};
+use crate::calls::{ChainHook, ConfigCall, DataCall, Image};
 use second::{Board, Listing, Verdict};
 
 pub struct Second {
@@ -44,8 +44,8 @@ impl Second {
         self.board.hook_interrupt(*handle, !handle, *handle)
     }
 
-    pub fn list_chain(&mut self, at: &ChainPlace) -> (i32, u32, u32, u32) {
-        self.board.list_chain(at.line, at.place)
+    pub fn list_chain(&mut self, at: &ChainHook) -> (i32, u32, u32, u32) {
+        self.board.list_chain(at.line, at.index)
     }
 
     pub fn list_window(&mut self, n: &u32) -> Listing {

@@ -1,6 +1,6 @@
 //! Both sides on the same board: the same calls in both, and their answers compared.
 
-use crate::calls::{Answer, ChainPlace, ConfigCall, Results, LONG};
+use crate::calls::{Answer, ChainHook, ConfigCall, Results, LONG};
 use crate::model::Second;
 use crate::proved::Proved;
 use second::{FUNCTIONS, WINDOWS};
@@ -65,8 +65,8 @@ impl Pair {
             self.compared(&n, Proved::list_window, Second::list_window)?;
         }
         for line in 0..LINES {
-            for place in 0..=FUNCTIONS as u32 {
-                let at = ChainPlace { line, place };
+            for index in 0..=FUNCTIONS as u32 {
+                let at = ChainHook { line, index };
                 self.compared(&at, Proved::list_chain, Second::list_chain)?;
             }
         }

@@ -3,7 +3,7 @@
 //! Each gives its number and leaves its results in memory that is lent to it, which a timed
 //! loop lends once for all its calls: what it would clear and copy is no part of the call.
 
-use crate::calls::{ChainPlace, ConfigCall, DataCall, Image};
+use crate::calls::{ChainHook, ConfigCall, DataCall, Image};
 use exports::*;
 use second::{FUNCTIONS, RECORD_LENGTH, WINDOWS};
 
@@ -146,9 +146,9 @@ impl Proved {
         unsafe { bios_hook_interrupt(header, records, &mut self.hooks, *handle, !handle, *handle) }
     }
 
-    pub fn list_chain(&mut self, at: &ChainPlace, values: &mut [u64; 6]) -> i32 {
+    pub fn list_chain(&mut self, at: &ChainHook, values: &mut [u64; 6]) -> i32 {
         // SAFETY: as in `load`.
-        unsafe { bios_list_chain(&self.records, &self.hooks, at.line, at.place, values) }
+        unsafe { bios_list_chain(&self.records, &self.hooks, at.line, at.index, values) }
     }
 
     pub fn list_window(&mut self, n: &u32, values: &mut [u64; 6]) -> i32 {

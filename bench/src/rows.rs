@@ -2,7 +2,7 @@
 
 use crate::arguments::{addresses, first_hooks, last_hooks, moves, registers, LIST};
 use crate::boards::TimedBoard;
-use crate::calls::{Answer, ChainPlace, ConfigCall, DataCall, Results, LONG, WIDTHS};
+use crate::calls::{Answer, ChainHook, ConfigCall, DataCall, Results, LONG, WIDTHS};
 use crate::model::Second;
 use crate::pair::Pair;
 use crate::proved::Proved;
@@ -62,16 +62,16 @@ impl Rows<'_> {
     }
 
     fn listings(&mut self) -> Result<(), String> {
-        let chain = |rows: &mut Self, name, list: &[ChainPlace]| {
+        let chain = |rows: &mut Self, name, list: &[ChainHook]| {
             rows.row(name, list, 1, Proved::list_chain, Second::list_chain)
         };
         let window = |rows: &mut Self, name, n| {
             rows.row(name, &vec![n; LIST], 1, Proved::list_window, Second::list_window)
         };
-        chain(self, "chain listing, first place", &first_hooks(self.board))?;
-        chain(self, "chain listing, last place", &last_hooks(self.board))?;
-        window(self, "window listing, first place", 0)?;
-        window(self, "window listing, last place", self.board.windows.len() as u32 - 1)
+        chain(self, "chain listing, first hook", &first_hooks(self.board))?;
+        chain(self, "chain listing, last hook", &last_hooks(self.board))?;
+        window(self, "window listing, first window", 0)?;
+        window(self, "window listing, last window", self.board.windows.len() as u32 - 1)
     }
 
     fn whole_board(&mut self) -> Result<(), String> {
