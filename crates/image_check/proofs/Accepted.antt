@@ -14,7 +14,7 @@ use Rattle.image_layout.specs.Image.{imageRecord, trailerSize, imageSize, count
 use Rattle.image_record.specs.Record.{recordOk}
 use Rattle.image_refusals.specs.Refusals.{Facts, imageMax, cellsMax, accepted, refused, badRecord, isAccepted, firstBad, firstRefusal}
 use Rattle.image_refusals.specs.Steps.{formRefusal, recordsVerdict, cellsVerdict}
-use Rattle.image_check.specs.Check.{factsOf, checkedAnyLength, checked}
+use Rattle.image_check.specs.Check.{factsOf, checked}
 use Rattle.image_refusals.specs.declared.verdict.Verdict.{Verdict}
 
 -- the facts of an image that no refusal applies to
@@ -121,11 +121,6 @@ passes f room k = cells-left f room k room ∙ rw (le-ltb cellsMax (f .total) (k
 pub record Accepted (image : List ℕ) (room : ℕ) : Type 0 where
   pub short : length image ≤ imageMax
   pub fine : Fine (factsOf image) room
-
--- what is accepted was judged so
-pub accepted-judged : (image : List ℕ) (room : ℕ) → isAccepted (checked image room) ≡ true → isAccepted (checkedAnyLength image room) ≡ true
-unfolding checked
-accepted-judged image room e = passed (ltb imageMax (length image)) (refused 1) _ refl e .1
 
 pub accepted-image : (image : List ℕ) (room : ℕ) → isAccepted (checked image room) ≡ true → Accepted image room
 unfolding checked

@@ -9,24 +9,18 @@ use board::layout::Records;
 use board::layout::Registers;
 use board::layout::Used;
 use board::layout::Windows;
+use image_check::check::IMAGE;
 use image_check::check::check_any_length;
-use image_check::check::check_image;
 use image_refusals::verdict::Verdict;
 use image_refusals::verdict::is_accepted;
+use image_refusals::verdict::plain;
 use reset::reset;
 ghost use mathlib.Core.Path.{_≡_};
-ghost use mathlib.Core.Bool.{true};
-ghost use lib.ListN.{length};
 ghost use Rattle.board.specs.Parts.{parts};
-ghost use Rattle.image_refusals.specs.Refusals.{isAccepted};
-ghost use Rattle.image_check.specs.Check.{checkedAnyLength};
-ghost use Rattle.load.specs.Load.{loadOutcome, takenIn, load, loadAnyLength};
+ghost use Rattle.load.specs.Load.{loadOutcome, load, loadAnyLength};
 
-// The board of an image that a verdict accepts; else everything stays as it was. It is not public:
-// of a verdict that the image did not earn it would have to check the image again, or its contract
-// to say what becomes of records that do not fit.
-fn take_in(
-    verdict: Verdict,
+// A load without the upper length, for an image that comes in portions.
+pub fn load_any_length(
     image: &[u8],
     header: &mut Header,
     records: &mut Records,
@@ -37,16 +31,15 @@ fn take_in(
     used: &mut Used,
     cells: &mut [u8],
 ) -> Verdict
-    requires { ⌜ (isAccepted verdict ≡ true
-        → isAccepted (checkedAnyLength (now image) (length (now cells))) ≡ true) ⌝ }
     ensures { λ r. ⌜ loadOutcome r (parts
         (now (header .exit)) (now (records .exit)) (now (registers .exit)) (now (windows .exit))
         (now (offsets .exit)) (now (hooks .exit)) (now (used .exit)) (now (cells .exit)))
-        ≡ takenIn verdict (parts
+        ≡ loadAnyLength (parts
         (now (header .entry)) (now (records .entry)) (now (registers .entry)) (now (windows .entry))
         (now (offsets .entry)) (now (hooks .entry)) (now (used .entry)) (now (cells .entry)))
         (now (image .entry)) ⌝ }
 {
+    let verdict = check_any_length(image, cells.len());
     if !is_accepted(verdict) {
         return verdict;
     }
@@ -85,44 +78,10 @@ pub fn load(
         (now (offsets .entry)) (now (hooks .entry)) (now (used .entry)) (now (cells .entry)))
         (now (image .entry)) ⌝ }
 {
-    let verdict = check_image(image, cells.len());
-    take_in(
-        verdict,
-        image,
-        header,
-        records,
-        registers,
-        windows,
-        offsets,
-        hooks,
-        used,
-        cells,
-    )
-}
-
-// The same without the upper length, for an image that comes in portions.
-pub fn load_any_length(
-    image: &[u8],
-    header: &mut Header,
-    records: &mut Records,
-    registers: &mut Registers,
-    windows: &mut Windows,
-    offsets: &mut CellOffsets,
-    hooks: &mut Hooks,
-    used: &mut Used,
-    cells: &mut [u8],
-) -> Verdict
-    ensures { λ r. ⌜ loadOutcome r (parts
-        (now (header .exit)) (now (records .exit)) (now (registers .exit)) (now (windows .exit))
-        (now (offsets .exit)) (now (hooks .exit)) (now (used .exit)) (now (cells .exit)))
-        ≡ loadAnyLength (parts
-        (now (header .entry)) (now (records .entry)) (now (registers .entry)) (now (windows .entry))
-        (now (offsets .entry)) (now (hooks .entry)) (now (used .entry)) (now (cells .entry)))
-        (now (image .entry)) ⌝ }
-{
-    let verdict = check_any_length(image, cells.len());
-    take_in(
-        verdict,
+    if IMAGE < image.len() {
+        return plain(1);
+    }
+    load_any_length(
         image,
         header,
         records,
