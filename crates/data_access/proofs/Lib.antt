@@ -1,2 +1,3 @@
 -- The laws that proofs here cite.
 mod Joined
+mod Known

@@ -1,8 +1,9 @@
 -- `c_fast_read_data`: what is at the target that a known width is for, or the refusal.
-use mathlib.Core.Path.{sym, _∙_}
+use mathlib.Core.Path.{refl, sym, _∙_}
 use Rattle.data_cells.proofs.Inside.{target-inside}
-use denote.Ref.{now}
-use Rattle.data_cells.proofs.Named.{target-named}
+use Rattle.data_access.specs.Data.{fastReadAt}
+use Rattle.data_access.specs.CCalls.{cFastReadData}
+use Rattle.data_access.proofs.Known.{of-known}
 use borrow.Author.Needs.{needs}
 use Rattle.data_access.proofs.c_calls.c_fast_read_data.Statement.{statement}
 use Rattle.data_access.proofs.c_calls.c_fast_read_data.Tie as tie
@@ -33,14 +34,10 @@ enum-told c = search needs
 
 returns : tie.Need-returns
 returns c =
-    let a = c .before .before .before .before .before .before .before .before .before .before .args in
-    let known = sym (c .before .before .before .before .before .before .before .before .width-from-c .ensures) ∙ c .before .before .before .before .before .before .width .given .1 in
-    let target =
-    target-named (now (a .header)) (now (a .records)) (now (a .windows)) (now (a .offsets)) _ _ _ _ _ _ _ _
-    (c .before .before .before .find-window .ensures)
-    (c .before .before .place-of-handle .ensures)
-    (c .before .cell-target-of .ensures) in
-    rw (known, ← c .before .before .before .before .space-from-c .ensures, ← target) (c .fast-read-at .ensures)
+    let d = c .before in
+    of-known cFastReadData fastReadAt (d .before .before .before .before .before .before .before .width-from-c .ensures)
+    (d .before .before .before .before .before .width .given .1) (d .before .before .before .space-from-c .ensures)
+    (d .before .before .find-window .ensures) (d .before .place-of-handle .ensures) (d .cell-target-of .ensures) (c .fast-read-at .ensures) refl
 
 returns-2 : tie.Need-returns-2
 returns-2 c = rw (sym (c .before .before .width-from-c .ensures) ∙ c .enum-told .given .1)

@@ -1,8 +1,9 @@
 -- `c_read_data`: what is at the target that a known width is for, or the refusal.
-use mathlib.Core.Path.{sym, _∙_}
+use mathlib.Core.Path.{refl, sym, _∙_}
 use Rattle.data_cells.proofs.Inside.{target-inside}
-use denote.Ref.{now}
-use Rattle.data_cells.proofs.Named.{target-named}
+use Rattle.data_access.specs.Data.{readAt}
+use Rattle.data_access.specs.CCalls.{cReadData}
+use Rattle.data_access.proofs.Known.{of-known}
 use borrow.Author.Needs.{needs}
 use Rattle.data_access.proofs.c_calls.c_read_data.Statement.{statement}
 use Rattle.data_access.proofs.c_calls.c_read_data.Tie as tie
@@ -28,20 +29,15 @@ cell-target-of-requires c κs = search needs
 read-at-requires : tie.Need-read-at-requires
 read-at-requires c κs at order e = target-inside _ _ _ _ _ at order (sym (c .cell-target-of .ensures) ∙ e)
 
--- /work/main/target/rlib/board.rlib/interface/lang/src/status.rt:9:36
 enum-told : tie.Need-enum-told
 enum-told c = search needs
 
 returns : tie.Need-returns
 returns c =
-    let a = c .before .before .before .before .before .before .before .before .before .before .args in
-    let known = sym (c .before .before .before .before .before .before .before .before .width-from-c .ensures) ∙ c .before .before .before .before .before .before .width .given .1 in
-    let target =
-    target-named (now (a .header)) (now (a .records)) (now (a .windows)) (now (a .offsets)) _ _ _ _ _ _ _ _
-    (c .before .before .before .find-window .ensures)
-    (c .before .before .place-of-handle .ensures)
-    (c .before .cell-target-of .ensures) in
-    rw (known, ← c .before .before .before .before .space-from-c .ensures, ← target) (c .read-at .ensures)
+    let d = c .before in
+    of-known cReadData readAt (d .before .before .before .before .before .before .before .width-from-c .ensures)
+    (d .before .before .before .before .before .width .given .1) (d .before .before .before .space-from-c .ensures)
+    (d .before .before .find-window .ensures) (d .before .place-of-handle .ensures) (d .cell-target-of .ensures) (c .read-at .ensures) refl
 
 returns-2 : tie.Need-returns-2
 returns-2 c = rw (sym (c .before .before .width-from-c .ensures) ∙ c .enum-told .given .1)
