@@ -1,10 +1,8 @@
 -- `little_long_at`: its two halves joined.
-use Prim.Native.Nat.{_+_}
+use native.Mathlib.Nat.{add-comm}
 use native.Mathlib.Omega.{arith}
-use mathlib.Core.Path.{sym}
-use Rattle.numbers.specs.Numbers.{byteAt}
-use Rattle.numbers.proofs.Numbers.{little-below}
-use Rattle.data_access.proofs.Joined.{little-join}
+use mathlib.Core.Path.{refl, _∙_}
+use Rattle.data_access.proofs.Joined.{little-halves}
 use borrow.Author.Needs.{needs}
 use Rattle.data_access.proofs.stored.little_long_at.Statement.{statement}
 use Rattle.data_access.proofs.stored.little_long_at.Tie as tie
@@ -19,18 +17,13 @@ little-word-at-requires-2 : tie.Need-little-word-at-requires-2
 little-word-at-requires-2 c κs = search needs
 
 mul-result : tie.Need-mul-result
-mul-result c =
-    let a = c .before .before .before .args in
-    omega (arith, c .little-word-at2 .ensures, little-below 2 (byteAt (a .cells .now)) (a .at + 2))
+mul-result c = omega (arith, little-halves 2 _ _ refl (c .little-word-at2 .ensures) .below)
 
 add-result : tie.Need-add-result
-add-result c =
-    let a = c .before .before .before .args in
-    let f = byteAt (a .cells .now) in
-    omega (arith, c .before .little-word-at .ensures, c .little-word-at2 .ensures, little-below 2 f (a .at), little-below 2 f (a .at + 2))
+add-result c = omega (arith, little-halves 2 _ _ (c .before .little-word-at .ensures) (c .little-word-at2 .ensures) .below)
 
 returns : tie.Need-returns
-returns c = rw (c .before .little-word-at .ensures, c .little-word-at2 .ensures) (sym (little-join 2 2 _ _))
+returns c = add-comm _ _ ∙ little-halves 2 _ _ (c .before .little-word-at .ensures) (c .little-word-at2 .ensures) .joined
 
 pub little-long-at-spec : {M : Type 1} → statement M
 little-long-at-spec =

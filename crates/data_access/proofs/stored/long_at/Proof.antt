@@ -1,10 +1,7 @@
 -- `long_at`: its two halves joined.
-use Prim.Native.Nat.{_+_}
 use native.Mathlib.Omega.{arith}
-use mathlib.Core.Path.{sym}
-use Rattle.numbers.specs.Numbers.{byteAt}
-use Rattle.numbers.proofs.Numbers.{big-below}
-use Rattle.data_access.proofs.Joined.{big-join}
+use mathlib.Core.Path.{refl}
+use Rattle.data_access.proofs.Joined.{big-halves}
 use borrow.Author.Needs.{needs}
 use Rattle.data_access.proofs.stored.long_at.Statement.{statement}
 use Rattle.data_access.proofs.stored.long_at.Tie as tie
@@ -13,9 +10,7 @@ word-at-requires : tie.Need-word-at-requires
 word-at-requires c κs = search needs
 
 mul-result : tie.Need-mul-result
-mul-result c =
-    let a = c .before .before .args in
-    omega (arith, c .word-at .ensures, big-below 2 (byteAt (a .cells .now)) (a .at))
+mul-result c = omega (arith, big-halves 2 _ _ (c .word-at .ensures) refl .below)
 
 add-word-at : tie.Need-add-word-at
 add-word-at c = search needs
@@ -24,13 +19,10 @@ word-at-requires-2 : tie.Need-word-at-requires-2
 word-at-requires-2 c κs = search needs
 
 add-result : tie.Need-add-result
-add-result c =
-    let a = c .before .before .before .args in
-    let f = byteAt (a .cells .now) in
-    omega (arith, c .before .word-at .ensures, c .word-at2 .ensures, big-below 2 f (a .at), big-below 2 f (a .at + 2))
+add-result c = omega (arith, big-halves 2 _ _ (c .before .word-at .ensures) (c .word-at2 .ensures) .below)
 
 returns : tie.Need-returns
-returns c = rw (c .before .word-at .ensures, c .word-at2 .ensures) (sym (big-join 2 2 _ _))
+returns c = big-halves 2 _ _ (c .before .word-at .ensures) (c .word-at2 .ensures) .joined
 
 pub long-at-spec : {M : Type 1} → statement M
 long-at-spec =
