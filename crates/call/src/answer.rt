@@ -187,13 +187,10 @@ pub fn of_listing(listing: Listing) -> Answer
             handle,
             base,
             contested,
-        } => {
-            Answer {
-                number: 0,
-                refused: false,
-                values: values_of(window, handle, base, contested),
-            }
-        }
+        } => with_values(
+            Status::SUCCESSFUL,
+            values_of(window, handle, base, contested),
+        ),
         Listing::Refused(status) => of_status(status),
     }
 }
@@ -214,13 +211,7 @@ pub fn of_chain(listing: ChainListing) -> Answer
             handle,
             handler,
             parameter,
-        } => {
-            Answer {
-                number: 0,
-                refused: false,
-                values: hook_values(handle, handler, parameter),
-            }
-        }
+        } => with_values(Status::SUCCESSFUL, hook_values(handle, handler, parameter)),
         ChainListing::Refused(status) => of_status(status),
     }
 }

@@ -9,6 +9,9 @@ enum-known-listing c = search needs
 values-of-requires : tie.Need-values-of-requires
 values-of-requires c κs = search needs
 
+with-values-requires : tie.Need-with-values-requires
+with-values-requires c κs = search needs
+
 enum-known-listing-2 : tie.Need-enum-known-listing-2
 enum-known-listing-2 c = search needs
 
@@ -16,7 +19,7 @@ of-status-requires : tie.Need-of-status-requires
 of-status-requires c κs = search needs
 
 returns : tie.Need-returns
-returns c = rw (c .values-of .ensures, c .before .before .listing .given .1)
+returns c = rw (c .with-values .ensures, c .before .values-of .ensures, c .before .before .before .listing .given .1)
 
 returns-2 : tie.Need-returns-2
 returns-2 c = rw (c .of-status .ensures, c .before .before .listing2 .given .1)
@@ -27,6 +30,7 @@ of-listing-spec =
     (tie.spec
     enum-known-listing
     values-of-requires
+    with-values-requires
     enum-known-listing-2
     of-status-requires
     returns
