@@ -14,13 +14,12 @@ use Rattle.interrupt_hook.specs.Meaning.{without}
 use Rattle.interrupt_list.specs.declared.listing.ChainListing.{ChainListing}
 use Rattle.interrupt_list.proofs.Listings.{chain-number, chain-values}
 use Rattle.interrupt_hook.proofs.Room.{without-once}
-use Rattle.load.specs.Load.{padded}
 use Rattle.call.specs.declared.answer.Answer.{Answer}
 use Rattle.call.specs.declared.call.Call.the-variants.{HookInterrupt, UnhookInterrupt}
 use Rattle.call.specs.declared.call.Query.the-variants.{ListChain}
 use Rattle.call.specs.Answers.{ofStatus, ofChain}
 use Rattle.reference.specs.State.{outcome, step, queried}
-use Rattle.reference.specs.Reference.{Reference, ReferenceOutcome, referenceOutcome, joined, lineFor, pinFor, withChainOf, referenceStep, referenceQueried}
+use Rattle.reference.specs.Reference.{Reference, ReferenceOutcome, referenceOutcome, lineFor, pinFor, withChainOf, referenceStep, referenceQueried}
 use Rattle.reference.specs.Run.{partsOf}
 use Rattle.reference.proofs.Tests.{ifBoth, ifAlike}
 use Rattle.reference.proofs.Registers.{kept-byte}
@@ -28,21 +27,12 @@ use Rattle.reference.proofs.Among.{every-without, packed-without}
 use Rattle.reference.proofs.Lines.{allLines}
 use Rattle.reference.proofs.Chained.{On, Chained, among-lines, without-lines, chained-changed, chained-hook}
 use Rattle.reference.proofs.Sound.{Sound, sound-with, Same, Simulated, Answered, as-outcome, handle-same, handle-within}
-use Rattle.reference.proofs.HookArray.{line-kept, few, hooked-same, room, free-same, hook-lines, chain-same}
+use Rattle.reference.proofs.HookArray.{lentRecords, line-kept, few, hooked-same, room, free-same, hook-lines, chain-same}
 
 module _ (b : Reference) (s : Sound b) where
-  abbrev rs : List (List ℕ)
-  rs = b .records
-
-  abbrev records : List ℕ
-  records = padded (joined (b .records))
-
-  abbrev chains : ℕ → List Hook
-  chains = b .chains
-
   -- another chain on a line, and the array that holds it
   chain-outcome : {a : Answer} {own hooks : List ℕ} (line : ℕ) (chain : List Hook) → hooks ≡ packed (allLines (withChainOf line chain b .chains))
-      → Chained rs (withChainOf line chain b .chains) → Same (outcome a (withHooks hooks (partsOf b)) own) (referenceOutcome a (withChainOf line chain b) own)
+      → Chained (b .records) (withChainOf line chain b .chains) → Same (outcome a (withHooks hooks (partsOf b)) own) (referenceOutcome a (withChainOf line chain b) own)
   unfolding partsOf
   chain-outcome line chain e k =
       record {
@@ -60,8 +50,8 @@ module _ (b : Reference) (s : Sound b) where
   unfolding step referenceStep partsOf
   same-hook handle handler parameter own =
       let line = lineFor b handle in
-      let pin-kept : pinOf records handle ≡ pinFor b handle = kept-byte rs (s .kept .sized) (handle - 1) 0x3D (omega arith) in
-      let routed-same : isRouted (pinOf records handle) (lineOf records handle) ≡ isRouted (pinFor b handle) line =
+      let pin-kept : pinOf (lentRecords b) handle ≡ pinFor b handle = kept-byte (b .records) (s .kept .sized) (handle - 1) 0x3D (omega arith) in
+      let routed-same : isRouted (pinOf (lentRecords b) handle) (lineOf (lentRecords b) handle) ≡ isRouted (pinFor b handle) line =
       rw (pin-kept, line-kept b s handle) in
       ifAlike (Changes own) (handle-same b s handle)
       (λ g.
@@ -72,8 +62,8 @@ module _ (b : Reference) (s : Sound b) where
       ifAlike (Changes own) (free-same b s handle (k .0) (k .1))
       (λ f.
       let e = not-true _ f in
-      chain-outcome line (chains line ++ hook handle handler parameter ∷ []) (hook-lines b s handle handler parameter last (room b s handle (k .0) (k .1) e))
-      (chained-hook rs chains (s .chained) handle handler parameter (k .0) (k .1) last e))
+      chain-outcome line (b .chains line ++ hook handle handler parameter ∷ []) (hook-lines b s handle handler parameter last (room b s handle (k .0) (k .1) e))
+      (chained-hook (b .records) (b .chains) (s .chained) handle handler parameter (k .0) (k .1) last e))
       (λ f. as-outcome b s))
       (λ r. as-outcome b s))
       (λ g. as-outcome b s)
@@ -86,17 +76,17 @@ module _ (b : Reference) (s : Sound b) where
       (λ g.
       ifAlike (Changes own) (hooked-same b s handle (handle-within b handle g .0))
       (λ e.
-      chain-outcome line (without handle (chains line))
-      (packed-without handle (allLines chains) (few b s) (among-lines rs chains (s .chained) handle ∙ e) ∙ ap packed (without-lines rs chains (s .chained) handle e))
-      (chained-changed rs chains (s .chained) line (without handle (chains line)) (every-without (On rs line) handle (chains line) (s .chained .each line))
-      (without-once handle (chains line) (s .chained .once line))))
+      chain-outcome line (without handle (b .chains line))
+      (packed-without handle (allLines (b .chains)) (few b s) (among-lines (b .records) (b .chains) (s .chained) handle ∙ e) ∙ ap packed (without-lines (b .records) (b .chains) (s .chained) handle e))
+      (chained-changed (b .records) (b .chains) (s .chained) line (without handle (b .chains line)) (every-without (On (b .records) line) handle (b .chains line) (s .chained .each line))
+      (without-once handle (b .chains line) (s .chained .once line))))
       (λ e. as-outcome b s))
       (λ g. as-outcome b s)
 
   pub same-list-chain : (line index : ℕ) → Answered b (ListChain line index)
   unfolding queried referenceQueried partsOf
   same-list-chain line index =
-      let given : chainListing (chainOf records (packed (allLines chains)) line) line index ≡ chainListing (chains line) line index =
+      let given : chainListing (chainOf (lentRecords b) (packed (allLines (b .chains))) line) line index ≡ chainListing (b .chains line) line index =
       ifBoth (λ (x y : ChainListing). x ≡ y) (ltb lastLine line) (λ e. refl) (λ e. ap (λ (c : List Hook). listedHook c index) (chain-same b s line (ltb-false lastLine line e))) in
       ap (λ (l : ChainListing). ofChain (chainNumberOf l) (chainValuesOf l)) given
-      ∙ rw (chain-number (chains line) line index, chain-values (chains line) line index)
+      ∙ rw (chain-number (b .chains line) line index, chain-values (b .chains line) line index)

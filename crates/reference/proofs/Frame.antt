@@ -10,6 +10,7 @@ use borrow.Author.Tests.{ltb-false}
 use Rattle.board.specs.Parts.{Parts}
 use Rattle.board.specs.Layout.{functionsMax, registersEach, markSize}
 use Rattle.numbers.specs.Numbers.{bytes}
+use Rattle.config_read.specs.declared.target.Target.the-variants.{Function}
 use Rattle.config_write.specs.Write.{movesWindows}
 use Rattle.board.specs.Spaces.{spaceNumber}
 use Rattle.cell_layout.specs.Cells.{total}
@@ -19,7 +20,7 @@ use Rattle.image_writer.proofs.Lists.{trailer-length}
 use Rattle.call.specs.declared.call.Call.{Call}
 use Rattle.call.specs.declared.call.Access.the-variants.{Read, FastRead, Write}
 use Rattle.call.specs.declared.call.Call.the-variants.{Load, Reset, WriteImage, Config, Data, GetResource, HookInterrupt, UnhookInterrupt, SetCardUsed, Ask}
-use Rattle.reference.specs.Reference.{Reference, exponentOf, joined, imageBytes, targetOf, cellTargetFor, writeOf, imageVerdict, referenceStep, referenceStart}
+use Rattle.reference.specs.Reference.{Reference, referenceOutcome, fresh, exponentOf, joined, imageBytes, targetOf, cellTargetFor, writeOf, imageVerdict, referenceStep, referenceStart}
 use Rattle.reference.specs.Run.{Request, stepOn, referenceAfter, partsOf}
 use Rattle.reference.specs.Claims.{Touch, none, every, touch, nothing, addressed, mayTouch, Framed, Frame}
 use Rattle.reference.proofs.Tests.{ifTest, ifTarget, ifAt}
@@ -30,7 +31,7 @@ use Rattle.reference.proofs.Sound.{Sound}
 use Rattle.reference.proofs.Configuration.{left, follows, writes}
 use Rattle.reference.proofs.Simulation.{same, sound-start, start-same}
 use Rattle.reference.proofs.Refinement.{goes}
-use Rattle.reference.proofs.Stays.{Stays, cells-and-own, own-only, keeps, stays-resource, stays-hook, stays-unhook, stays-used}
+use Rattle.reference.proofs.Stays.{Stays, records-left, cells-and-own, own-only, keeps, stays-resource, stays-hook, stays-unhook, stays-used}
 
 -- what a write of w registers may touch
 abbrev writeTouch : ℕ → ℕ → ℕ → Touch
@@ -61,17 +62,9 @@ module _ (b : Reference) (s : Sound b) (own : List ℕ) where
       ifTest (Stays (mayTouch b Reset own) b own) (ltb (length (b .cells)) (total (exponentOf (b .records))))
       (λ e. keeps (mayTouch b Reset own) b own _)
       (λ e.
-      record {
-        header = alike _ _;
-        records = λ t. refl;
-        offsets = λ t. refl;
-        registers = table-alike every (functionsMax * registersEach) _ _ (λ j u. touched u);
-        list = λ t. touched t;
-        hooks = λ t. touched t;
-        used = table-alike every (functionsMax * markSize) _ _ (λ j u. touched u);
-        cells = zeroed-alike _ (b .cells) (s .fits);
-        own = alike _ own;
-      })
+      records-left (mayTouch b Reset own) b own (referenceOutcome _ (fresh (b .records) (b .cells)) own) refl
+      (table-alike every (functionsMax * registersEach) _ _ (λ j u. touched u)) (λ t. touched t) (λ t. touched t)
+      (table-alike every (functionsMax * markSize) _ _ (λ j u. touched u)) (zeroed-alike _ (b .cells) (s .fits)) (alike _ own))
 
   image-length : length (imageBytes (b .records)) ≡ imageSize (length (b .records))
   image-length =
@@ -105,17 +98,9 @@ module _ (b : Reference) (s : Sound b) (own : List ℕ) where
       → Stays t b own (writeOf b w register value own g))
       (length (b .records)) w handle register
       (λ i h e k l.
-      record {
-        header = alike _ _;
-        records = λ u. refl;
-        offsets = λ u. refl;
-        registers = table-alike (addressed w handle register) (functionsMax * registersEach) _ _ (λ j u. rw (rw (e, add-one (j / registersEach), add-one i, eqb·suc-suc) at u));
-        list = l;
-        hooks = λ u. refl;
-        used = alike _ _;
-        cells = alike _ _;
-        own = alike _ own;
-      })
+      records-left t b own (writeOf b w register value own (Function i)) refl
+      (table-alike (addressed w handle register) (functionsMax * registersEach) _ _ (λ j u. rw (rw (e, add-one (j / registersEach), add-one i, eqb·suc-suc) at u)))
+      l (λ u. refl) (alike _ _) (alike _ _) (alike _ own))
       (λ l. keeps t b own _) (λ l. keeps t b own _)
       (list-left w handle register value)
 

@@ -26,12 +26,16 @@ use Rattle.reference.proofs.Lines.{every-lines, allLines, linesAbove, l
 use Rattle.reference.proofs.Chained.{loadedLine, On, among-lines, once-lines, within-lines, few-hooks}
 use Rattle.reference.proofs.Sound.{Sound}
 
+-- the lent records
+abbrev pub lentRecords : Reference → List ℕ
+lentRecords b = padded (joined (b .records))
+
 module _ (b : Reference) (s : Sound b) where
   abbrev rs : List (List ℕ)
   rs = b .records
 
   abbrev records : List ℕ
-  records = padded (joined (b .records))
+  records = lentRecords b
 
   abbrev chains : ℕ → List Hook
   chains = b .chains

@@ -2,7 +2,7 @@
 use Prim.Native.Nat.{ℕ, _+_, _*_, _-_, _/_}
 use native.Mathlib.Omega.{arith}
 use native.Mathlib.Nat.{zero-add}
-use mathlib.Core.Bool.{true, not}
+use mathlib.Core.Bool.{true, false, not}
 use mathlib.Core.Logic.{inr}
 use mathlib.Core.Path.{_≡_, refl, sym, _∙_}
 use mathlib.Core.List.{List}
@@ -17,7 +17,7 @@ use Rattle.resource.specs.Resource.{ResourceOutcome, windowBases, descriptors, 
 use Rattle.resource.proofs.Shows.{described-size}
 use Rattle.interrupt_array.specs.Hooks.{Hook, isRouted}
 use Rattle.interrupt_hook.specs.Meaning.{isAmong}
-use Rattle.card_used.specs.Used.{Mark, markNumber}
+use Rattle.card_used.specs.Used.{Mark, markNumber, newMark}
 use Rattle.call.specs.declared.answer.Answer.{Answer}
 use Rattle.call.specs.declared.call.Call.the-variants.{GetResource, HookInterrupt, UnhookInterrupt, SetCardUsed}
 use Rattle.call.specs.Answers.{ofStatus}
@@ -33,22 +33,35 @@ use Rattle.reference.proofs.Sound.{handle-within}
 abbrev pub Stays : Touch → Reference → List ℕ → ReferenceOutcome → Type 0
 Stays t b own r = Framed t (partsOf b) own (outcome (r .answer) (partsOf (r .reference)) (r .own))
 
+module _ (t : Touch) (b : Reference) (own : List ℕ) (r : ReferenceOutcome) (k : r .reference .records ≡ b .records) where
+  -- a call that leaves the records, and so header and offsets
+  pub records-left : EqualOutside (t .registers) (partsOf (r .reference) .registers) (partsOf b .registers)
+      → (t .list ≡ false → partsOf (r .reference) .windows ≡ partsOf b .windows)
+      → (t .hooks ≡ false → partsOf (r .reference) .hooks ≡ partsOf b .hooks)
+      → EqualOutside (t .used) (partsOf (r .reference) .used) (partsOf b .used)
+      → EqualOutside (t .cells) (r .reference .cells) (b .cells)
+      → EqualOutside (t .own) (r .own) own
+      → Stays t b own r
+  unfolding partsOf
+  records-left registers list hooks used cells lent =
+      record {
+        header = rw k (alike _ _);
+        records = λ e. rw k;
+        offsets = λ e. rw k;
+        registers = registers;
+        list = list;
+        hooks = hooks;
+        used = used;
+        cells = cells;
+        own = lent;
+      }
+
 -- a call that leaves the board but for cells that it may touch, and of its own buffer what it may not touch
 pub cells-and-own : (t : Touch) (b : Reference) (cells own out : List ℕ) (a : Answer) → EqualOutside (t .cells) cells (b .cells) → EqualOutside (t .own) out own
     → Stays t b own (referenceOutcome a (withCellsOf cells b) out)
 unfolding partsOf
 cells-and-own t b cells own out a c k =
-    record {
-      header = alike _ _;
-      records = λ e. refl;
-      offsets = λ e. refl;
-      registers = alike _ _;
-      list = λ e. refl;
-      hooks = λ e. refl;
-      used = alike _ _;
-      cells = c;
-      own = k;
-    }
+    records-left t b own (referenceOutcome a (withCellsOf cells b) out) refl (alike _ _) (λ e. refl) (λ e. refl) (alike _ _) c k
 
 pub own-only : (t : Touch) (b : Reference) (own out : List ℕ) (a : Answer) → EqualOutside (t .own) out own → Stays t b own (referenceOutcome a b out)
 own-only t b own out a k = cells-and-own t b (b .cells) own out a (alike (t .cells) (b .cells)) k
@@ -61,17 +74,8 @@ chain-only : (t : Touch) (b : Reference) (own : List ℕ) (a : Answer) (line : �
     → Stays t b own (referenceOutcome a (withChainOf line chain b) own)
 unfolding partsOf
 chain-only t b own a line chain h =
-    record {
-      header = alike _ _;
-      records = λ e. refl;
-      offsets = λ e. refl;
-      registers = alike _ _;
-      list = λ e. refl;
-      hooks = λ e. touched (sym h ∙ e);
-      used = alike _ _;
-      cells = alike _ _;
-      own = alike _ own;
-    }
+    records-left t b own (referenceOutcome a (withChainOf line chain b) own) refl (alike _ _) (λ e. refl) (λ e. touched (sym h ∙ e)) (alike _ _) (alike _ _)
+    (alike _ own)
 
 module _ (b : Reference) (own : List ℕ) where
   -- descriptors stand at the front of the buffer
@@ -135,16 +139,7 @@ module _ (b : Reference) (own : List ℕ) where
       (λ g.
       ifTest (Stays t b own) (leb status 3)
       (λ e.
-      record {
-        header = alike _ _;
-        records = λ u. refl;
-        offsets = λ u. refl;
-        registers = alike _ _;
-        list = λ u. refl;
-        hooks = λ u. refl;
-        used = mark-only handle _ g;
-        cells = alike _ _;
-        own = alike _ own;
-      })
+      records-left t b own (referenceOutcome _ (withMarkOf (handle - 1) (newMark status callBack) b) own) refl (alike _ _) (λ u. refl) (λ u. refl) (mark-only handle _ g) (alike _ _)
+      (alike _ own))
       (λ e. keeps t b own _))
       (λ g. keeps t b own _)
