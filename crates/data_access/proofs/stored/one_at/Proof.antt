@@ -1,5 +1,5 @@
 -- `one_at`: a byte is below 256.
-use Rattle.numbers.specs.Numbers.{big, byteAt}
+use Rattle.numbers.specs.Numbers.{big}
 use native.Mathlib.Omega.{arith}
 use borrow.Author.Needs.{needs}
 use Rattle.data_access.proofs.stored.one_at.Statement.{statement}
