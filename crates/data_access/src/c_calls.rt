@@ -19,6 +19,7 @@ use board::read::FastRead;
 use board::read::Read;
 use board::status::Status;
 use data_cells::target::cell_target_of;
+use data_window::find::data_address;
 use data_window::find::find_window;
 ghost use mathlib.Core.Path.{_≡_};
 ghost use Rattle.board.specs.Spaces.{spaceNumber};
@@ -44,17 +45,8 @@ pub fn c_read_data(
 {
     match width_from_c(width) {
         CWidth::Known(width) => {
-            let finding = find_window(
-                header,
-                records,
-                windows,
-                offsets,
-                cells.len(),
-                space_from_c(io),
-                width,
-                handle,
-                BusAddress(address),
-            );
+            let at = data_address(space_from_c(io), width, handle, BusAddress(address));
+            let finding = find_window(header, records, windows, offsets, cells.len(), at);
             let function = place_of_handle(handle);
             let target = cell_target_of(records, offsets, cells.len(), width, function, finding);
             read_at(cells, width, target)
@@ -84,17 +76,8 @@ pub fn c_fast_read_data(
 {
     match width_from_c(width) {
         CWidth::Known(width) => {
-            let finding = find_window(
-                header,
-                records,
-                windows,
-                offsets,
-                cells.len(),
-                space_from_c(io),
-                width,
-                handle,
-                BusAddress(address),
-            );
+            let at = data_address(space_from_c(io), width, handle, BusAddress(address));
+            let finding = find_window(header, records, windows, offsets, cells.len(), at);
             let function = place_of_handle(handle);
             let target = cell_target_of(records, offsets, cells.len(), width, function, finding);
             fast_read_at(cells, width, target)
@@ -126,17 +109,8 @@ pub fn c_write_data(
 {
     match width_from_c(width) {
         CWidth::Known(width) => {
-            let finding = find_window(
-                header,
-                records,
-                windows,
-                offsets,
-                cells.len(),
-                space_from_c(io),
-                width,
-                handle,
-                BusAddress(address),
-            );
+            let at = data_address(space_from_c(io), width, handle, BusAddress(address));
+            let finding = find_window(header, records, windows, offsets, cells.len(), at);
             let function = place_of_handle(handle);
             let target = cell_target_of(records, offsets, cells.len(), width, function, finding);
             write_at(cells, width, value, target)

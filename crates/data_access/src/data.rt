@@ -3,17 +3,15 @@
 use crate::at_cells::fast_read_at;
 use crate::at_cells::read_at;
 use crate::at_cells::write_at;
-use board::address::BusAddress;
 use board::layout::CellOffsets;
 use board::layout::Header;
 use board::layout::Records;
 use board::layout::Windows;
 use board::read::FastRead;
 use board::read::Read;
-use board::space::Space;
 use board::status::Status;
 use data_cells::target::cell_target;
-use numbers::number::Width;
+use data_window::find::DataAddress;
 ghost use mathlib.Core.Path.{_≡_};
 ghost use Rattle.numbers.specs.Numbers.{bytes};
 ghost use Rattle.board.specs.Spaces.{spaceNumber};
@@ -26,26 +24,14 @@ pub fn read_data(
     windows: &Windows,
     offsets: &CellOffsets,
     cells: &[u8],
-    space: Space,
-    width: Width,
-    handle: u32,
-    address: BusAddress,
+    at: DataAddress,
 ) -> Read
-    ensures { λ r. ⌜ r ≡ readData (bytes width)
+    ensures { λ r. ⌜ r ≡ readData (bytes (at .width))
         (now (header .entry)) (now (records .entry)) (now (windows .entry)) (now (offsets .entry))
-        (now (cells .entry)) (spaceNumber space) handle (address .0) ⌝ }
+        (now (cells .entry)) (spaceNumber (at .space)) (at .handle) (at .address .0) ⌝ }
 {
-    let target = cell_target(
-        header,
-        records,
-        windows,
-        offsets,
-        cells.len(),
-        space,
-        width,
-        handle,
-        address,
-    );
+    let width = at.width;
+    let target = cell_target(header, records, windows, offsets, cells.len(), at);
     read_at(cells, width, target)
 }
 
@@ -56,26 +42,14 @@ pub fn fast_read_data(
     windows: &Windows,
     offsets: &CellOffsets,
     cells: &[u8],
-    space: Space,
-    width: Width,
-    handle: u32,
-    address: BusAddress,
+    at: DataAddress,
 ) -> FastRead
-    ensures { λ r. ⌜ r ≡ fastReadData (bytes width)
+    ensures { λ r. ⌜ r ≡ fastReadData (bytes (at .width))
         (now (header .entry)) (now (records .entry)) (now (windows .entry)) (now (offsets .entry))
-        (now (cells .entry)) (spaceNumber space) handle (address .0) ⌝ }
+        (now (cells .entry)) (spaceNumber (at .space)) (at .handle) (at .address .0) ⌝ }
 {
-    let target = cell_target(
-        header,
-        records,
-        windows,
-        offsets,
-        cells.len(),
-        space,
-        width,
-        handle,
-        address,
-    );
+    let width = at.width;
+    let target = cell_target(header, records, windows, offsets, cells.len(), at);
     fast_read_at(cells, width, target)
 }
 
@@ -86,27 +60,15 @@ pub fn write_data(
     windows: &Windows,
     offsets: &CellOffsets,
     cells: &mut [u8],
-    space: Space,
-    width: Width,
-    handle: u32,
-    address: BusAddress,
+    at: DataAddress,
     value: u32,
 ) -> Status
     ensures { λ r. ⌜ dataWritten r (now (cells .exit))
-        ≡ writeData (bytes width)
+        ≡ writeData (bytes (at .width))
         (now (header .entry)) (now (records .entry)) (now (windows .entry)) (now (offsets .entry))
-        (now (cells .entry)) (spaceNumber space) handle (address .0) value ⌝ }
+        (now (cells .entry)) (spaceNumber (at .space)) (at .handle) (at .address .0) value ⌝ }
 {
-    let target = cell_target(
-        header,
-        records,
-        windows,
-        offsets,
-        cells.len(),
-        space,
-        width,
-        handle,
-        address,
-    );
+    let width = at.width;
+    let target = cell_target(header, records, windows, offsets, cells.len(), at);
     write_at(cells, width, value, target)
 }

@@ -1,6 +1,5 @@
 // Where the cells of an access stand: where those of its window's slot begin, and from there the
 // distance that the byte order gives.
-use board::address::BusAddress;
 use board::handle::place_of_handle;
 use board::layout::BASES;
 use board::layout::CellOffsets;
@@ -8,8 +7,8 @@ use board::layout::Header;
 use board::layout::Records;
 use board::layout::Windows;
 use board::layout::byte_order;
-use board::space::Space;
 use data_order::order::cell_distance;
+use data_window::find::DataAddress;
 use data_window::find::Finding;
 use data_window::find::find_window;
 use data_window::refusal::DataRefusal;
@@ -88,32 +87,20 @@ pub fn cell_target(
     windows: &Windows,
     offsets: &CellOffsets,
     room: usize,
-    space: Space,
-    width: Width,
-    handle: u32,
-    address: BusAddress,
+    at: DataAddress,
 ) -> CellTarget
-    ensures { λ r. ⌜ r ≡ cellTarget (bytes width)
+    ensures { λ r. ⌜ r ≡ cellTarget (bytes (at .width))
         (now (header .entry)) (now (records .entry)) (now (windows .entry)) (now (offsets .entry))
-        room (spaceNumber space) handle (address .0) ⌝ }
+        room (spaceNumber (at .space)) (at .handle) (at .address .0) ⌝ }
 {
-    let finding = find_window(
-        header,
-        records,
-        windows,
-        offsets,
-        room,
-        space,
-        width,
-        handle,
-        address,
-    );
+    let width = at.width;
+    let finding = find_window(header, records, windows, offsets, room, at);
     cell_target_of(
         records,
         offsets,
         room,
         width,
-        place_of_handle(handle),
+        place_of_handle(at.handle),
         finding,
     )
 }

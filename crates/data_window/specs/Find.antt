@@ -12,6 +12,10 @@ use Rattle.board.specs.Layout.{bases, windowsMax, widths}
 use Rattle.board.specs.Statuses.{funcNotSupported, bufferTooSmall, generalError, badHandle}
 use Rattle.board.specs.declared.status.Status.{Status}
 use Rattle.numbers.specs.Numbers.{isMultiple}
+use Rattle.numbers.specs.declared.number.Width.{Width}
+use Rattle.board.specs.declared.address.BusAddress.{BusAddress}
+use Rattle.board.specs.declared.space.Space.{Space}
+use Rattle.data_window.specs.declared.find.DataAddress.{DataAddress}
 use Rattle.window.specs.Kept.{unpacked}
 use Rattle.window.specs.Window.{Window, end}
 use Rattle.data_window.specs.declared.find.Finding.{Finding}
@@ -26,6 +30,10 @@ use Rattle.data_window.specs.declared.refusal.DataRefusal.the-variants.{
   WidthMissing,
   PastBuffer,
 }
+
+abbrev pub dataAddress : Space → Width → ℕ → BusAddress → DataAddress
+dataAddress space width handle address =
+    record { space = space; width = width; handle = handle; address = address }
 
 -- a window of a function's own, in that space, that holds the address; no function has a base
 -- register past its six

@@ -32,7 +32,26 @@ ghost use Rattle.board.specs.Spaces.{spaceNumber};
 ghost use Rattle.numbers.specs.Numbers.{bytes};
 ghost use Rattle.window.specs.Kept.{unpack, unpacked};
 ghost use Rattle.window.specs.Window.{end};
-ghost use Rattle.data_window.specs.Find.{holds, offers, checkedWindow, inList, findIn};
+ghost use Rattle.data_window.specs.Find.{dataAddress, holds, offers, checkedWindow, inList, findIn};
+
+// What a data access names: the space, the bytes that it moves, whose window, and where.
+pub struct DataAddress {
+    pub space: Space,
+    pub width: Width,
+    pub handle: u32,
+    pub address: BusAddress,
+}
+
+pub fn data_address(space: Space, width: Width, handle: u32, address: BusAddress) -> DataAddress
+    ensures { λ r. ⌜ r ≡ dataAddress space width handle address ⌝ }
+{
+    DataAddress {
+        space: space,
+        width: width,
+        handle: handle,
+        address: address,
+    }
+}
 
 // The window that an access is for, with its distance from the window's start and the bytes that
 // remain to its end; or the check that failed.
@@ -135,18 +154,17 @@ pub fn find_window(
     windows: &Windows,
     offsets: &CellOffsets,
     room: usize,
-    space: Space,
-    width: Width,
-    handle: u32,
-    address: BusAddress,
+    at: DataAddress,
 ) -> Finding
-    ensures { λ r. ⌜ r ≡ findIn (bytes width)
+    ensures { λ r. ⌜ r ≡ findIn (bytes (at .width))
         (now (header .entry)) (now (records .entry)) (now (windows .entry)) (now (offsets .entry))
-        room (spaceNumber space) handle (address .0) ⌝ }
+        room (spaceNumber (at .space)) (at .handle) (at .address .0) ⌝ }
 {
-    let good = is_handle(header, handle);
+    let space = at.space;
+    let width = at.width;
+    let good = is_handle(header, at.handle);
     let short = room < u32_at(offsets, WINDOWS) as usize;
-    let aligned = is_multiple_by_shift(address.0, width);
+    let aligned = is_multiple_by_shift(at.address.0, width);
     if !good {
         return Finding::Refused(DataRefusal::BadHandle);
     }
@@ -156,5 +174,5 @@ pub fn find_window(
     if !aligned {
         return Finding::Refused(DataRefusal::NotAligned);
     }
-    in_list(records, windows, space, width, handle, address.0)
+    in_list(records, windows, space, width, at.handle, at.address.0)
 }

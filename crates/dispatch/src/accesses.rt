@@ -17,6 +17,7 @@ use config_write::write::write_config;
 use data_access::data::fast_read_data;
 use data_access::data::read_data;
 use data_access::data::write_data;
+use data_window::find::data_address;
 use numbers::number::Width;
 ghost use mathlib.Core.Path.{_≡_};
 ghost use Rattle.reference.specs.State.{configOutcome, configAccess, dataOutcome, dataAccess};
@@ -75,46 +76,14 @@ pub(crate) fn data_access(
         (now (header .entry)) (now (records .entry)) (now (windows .entry)) (now (offsets .entry))
         (now (cells .entry)) space width handle address access ⌝ }
 {
+    let at = data_address(space, width, handle, address);
     match access {
-        Access::Read => {
-            of_read(read_data(
-                header,
-                records,
-                windows,
-                offsets,
-                cells,
-                space,
-                width,
-                handle,
-                address,
-            ))
-        },
+        Access::Read => { of_read(read_data(header, records, windows, offsets, cells, at)) },
         Access::FastRead => {
-            of_fast_read(fast_read_data(
-                header,
-                records,
-                windows,
-                offsets,
-                cells,
-                space,
-                width,
-                handle,
-                address,
-            ))
+            of_fast_read(fast_read_data(header, records, windows, offsets, cells, at))
         },
         Access::Write { value } => {
-            of_status(write_data(
-                header,
-                records,
-                windows,
-                offsets,
-                cells,
-                space,
-                width,
-                handle,
-                address,
-                value,
-            ))
+            of_status(write_data(header, records, windows, offsets, cells, at, value))
         },
     }
 }

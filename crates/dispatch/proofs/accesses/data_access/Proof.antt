@@ -7,8 +7,6 @@ pub data-access-spec : {M : Type 1} → statement M
 data-access-spec =
     tie.close
     (tie.spec
-    (λ c. search needs)
-    (λ c κs. search needs)
     (λ c κs. search needs)
     (λ c. search needs)
     (λ c κs. search needs)
@@ -17,8 +15,11 @@ data-access-spec =
     (λ c κs. search needs)
     (λ c κs. search needs)
     (λ c. search needs)
-    (λ c. rw (c .before .before .before .enum-told .given .1, c .of-read .ensures, c .before .read-data .ensures))
+    (λ c κs. search needs)
+    (λ c κs. search needs)
     (λ c. search needs)
-    (λ c. rw (c .before .before .before .enum-told2 .given .1, c .of-fast-read .ensures, c .before .fast-read-data .ensures))
+    (λ c. rw (c .before .before .before .enum-told .given .1, c .of-read .ensures, c .before .read-data .ensures, c .before .before .before .before .before .data-address .ensures))
     (λ c. search needs)
-    (λ c. rw (c .before .before .before .before .before .before .access .given .1, c .of-status .ensures, ← c .before .before .before .write-data .ensures)))
+    (λ c. rw (c .before .before .before .enum-told2 .given .1, c .of-fast-read .ensures, c .before .fast-read-data .ensures, c .before .before .before .before .before .data-address .ensures))
+    (λ c. search needs)
+    (λ c. rw (c .before .before .before .before .before .before .access .given .1, c .of-status .ensures, ← (rw (c .before .before .before .before .before .before .before .before .data-address .ensures) at (c .before .before .before .write-data .ensures)))))
