@@ -21,20 +21,20 @@ abbrev Call : Type 0 → Type 0
 Call A = List ℕ → List ℕ → List ℕ → List ℕ → List ℕ → ℕ → ℕ → ℕ → A
 
 pub of-known : {A : Type 0} (call : CWidth → Call A) (access : ℕ → List ℕ → CellTarget → A)
-    {header records windows offsets cells : List ℕ} {asked told : CWidth} {width : Width} {said space : Space} {handle address function : ℕ} {finding : Finding}
+    {header records windows offsets cells : List ℕ} {named decoded : CWidth} {width : Width} {namedSpace space : Space} {handle address function : ℕ} {finding : Finding}
     {target : CellTarget} {r : A}
-    → told ≡ asked
-    → told ≡ Known width
-    → space ≡ said
+    → decoded ≡ named
+    → decoded ≡ Known width
+    → space ≡ namedSpace
     → finding ≡ findIn (bytes width) header records windows offsets (length cells) (spaceNumber space) handle address
     → (0 < handle → function ≡ handle - 1)
     → target ≡ cellTargetIn records offsets (length cells) (bytes width) function finding
     → r ≡ access (bytes width) cells target
     → access (bytes width) cells (cellTarget (bytes width) header records windows offsets (length cells) (spaceNumber space) handle address)
     ≡ call (Known width) header records windows offsets cells (spaceNumber space) handle address
-    → r ≡ call asked header records windows offsets cells (spaceNumber said) handle address
-of-known call access {header = header} {records = records} {windows = windows} {offsets = offsets} {cells = cells} {width = width} asked known said found place reached e same =
+    → r ≡ call named header records windows offsets cells (spaceNumber namedSpace) handle address
+of-known call access {header = header} {records = records} {windows = windows} {offsets = offsets} {cells = cells} {width = width} decodes known spaced found place reached e same =
     e
     ∙ ap (access (bytes width) cells) (target-named header records windows offsets _ _ _ _ _ _ _ _ found place reached)
     ∙ same
-    ∙ rw (sym known ∙ asked, said)
+    ∙ rw (sym known ∙ decodes, spaced)

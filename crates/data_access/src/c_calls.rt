@@ -1,8 +1,8 @@
 // Data calls as C asks for them, with numbers for widths and spaces. They do not call those of
 // `data` but are put together from the same parts: the window (`find_window`), its cells
 // (`cell_target_of`) and the access there. The compiler then moves all of them into the function
-// for C; a call of `read_data` or `cell_target` would stay one, with its many arguments. Once the
-// width is known the definitions are those of `data`.
+// for C; a call of `read_data` or `cell_target` would stay one. Once the width is known the
+// definitions are those of `data`.
 use crate::at_cells::fast_read_at;
 use crate::at_cells::read_at;
 use crate::at_cells::write_at;

@@ -31,6 +31,7 @@ use Rattle.data_window.specs.declared.refusal.DataRefusal.the-variants.{
   PastBuffer,
 }
 
+-- what a data access names
 abbrev pub dataAddress : Space → Width → ℕ → BusAddress → DataAddress
 dataAddress space width handle address =
     record { space = space; width = width; handle = handle; address = address }
