@@ -3,7 +3,8 @@ use Prim.Native.Nat.{ℕ}
 use lib.IntN.{pos, negℤ}
 use Rattle.board.specs.declared.status.Status.{Status}
 
-abbrev minus : ℕ → Status
+-- the answer of a number below 0
+abbrev pub minus : ℕ → Status
 minus n = record { 0 = negℤ (pos n) }
 
 abbrev pub successful : Status
