@@ -31,7 +31,15 @@ use Rattle.call.specs.declared.call.Query.the-variants.{
 }
 use Rattle.call.specs.Answers.{answer, zeros, one, ofStatus, ofSearch, ofChain}
 use Rattle.reference.specs.Reference.{referenceStart}
-use Rattle.reference.specs.Run.{Request, Response, request, response, referenceResponses}
+use Rattle.reference.specs.Run.{
+  Request,
+  Response,
+  request,
+  response,
+  responses,
+  start,
+  referenceResponses,
+}
 use Rattle.proved_cases.specs.B1.{b1}
 
 -- a value that cells at the start of a window give in a byte order
@@ -163,6 +171,9 @@ Machine = List Request → List Response
 abbrev pub cells2064 : List ℕ
 cells2064 = replicate 2064 0
 
+abbrev pub programMachine : Machine
+programMachine = responses (start cells2064)
+
 abbrev pub referenceMachine : Machine
 referenceMachine = referenceResponses (referenceStart cells2064)
 
@@ -179,16 +190,17 @@ Holds m (cells l readings) =
     map (λ r. cellsValue (r .order) (r .width) (cellDistance (r .order) (r .width) 0) l) readings
     ≡ map (λ r. r .value) readings
 
--- THE PROVED CASES: every row of the table holds of the reference machine
 abbrev pub EveryCase : Machine → List Case → Type 0
 EveryCase m [] = Unit {0}
 EveryCase m (c ∷ cs) = Holds m c × EveryCase m cs
 
-abbrev pub ProvedCases : Type 0
-ProvedCases = EveryCase referenceMachine caseTable
+-- THE PROVED CASES: every row of the table holds of the program's step and of the reference machine
+pub record ProvedCases : Type 0 where
+  pub program : EveryCase programMachine caseTable
+  pub reference : EveryCase referenceMachine caseTable
 
 -- with one cell less B1 is refused with 8
 abbrev pub B1Short : Type 0
 B1Short =
-    referenceResponses (referenceStart (replicate 2063 0)) (request Load b1 ∷ [])
+    responses (start (replicate 2063 0)) (request Load b1 ∷ [])
     ≡ response (answer (pos 8) zeros) b1 ∷ []

@@ -2,3 +2,5 @@
 pub mod B1
 pub mod Cases
 pub mod Idle
+pub mod SmallBoard
+pub mod Rows

@@ -22,7 +22,7 @@ use Rattle.call.specs.declared.call.Access.the-variants.{Read, FastRead, Write}
 use Rattle.call.specs.declared.call.Call.the-variants.{Load, Reset, WriteImage, Config, Data, GetResource, HookInterrupt, UnhookInterrupt, SetCardUsed, Ask}
 use Rattle.reference.specs.Reference.{Reference, referenceOutcome, fresh, exponentOf, joined, imageBytes, targetOf, cellTargetFor, writeOf, imageVerdict, referenceStep, referenceStart}
 use Rattle.reference.specs.Run.{Request, stepOn, referenceAfter, partsOf}
-use Rattle.reference.specs.Claims.{Touch, none, every, touch, nothing, addressed, mayTouch, Framed, Frame}
+use Rattle.reference.specs.Claims.{Touch, hooksStay, none, every, touch, nothing, addressed, mayTouch, Framed, CallFramed, Frame}
 use Rattle.reference.proofs.Tests.{ifTest, ifTarget, ifAt}
 use Rattle.reference.proofs.Alike.{alike, touched, header-alike, zeroed-alike, table-alike, front-alike, written-alike}
 use Rattle.reference.proofs.Records.{joined-length}
@@ -31,11 +31,12 @@ use Rattle.reference.proofs.Sound.{Sound}
 use Rattle.reference.proofs.Configuration.{left, follows, writes}
 use Rattle.reference.proofs.Simulation.{same, sound-start, start-same}
 use Rattle.reference.proofs.Refinement.{goes}
+use Rattle.reference.proofs.LinesStay.{lines-framed}
 use Rattle.reference.proofs.Stays.{Stays, records-left, cells-and-own, own-only, keeps, stays-resource, stays-hook, stays-unhook, stays-used}
 
 -- what a write of w registers may touch
 abbrev writeTouch : ℕ → ℕ → ℕ → Touch
-writeTouch w handle register = touch none false (addressed w handle register) (movesWindows w register) false none none none
+writeTouch w handle register = touch none false (addressed w handle register) (movesWindows w register) hooksStay none none none
 
 module _ (b : Reference) (s : Sound b) (own : List ℕ) where
   stays-load : Stays (mayTouch b Load own) b own (referenceStep b Load own)
@@ -49,7 +50,7 @@ module _ (b : Reference) (s : Sound b) (own : List ℕ) where
         offsets = λ t. touched t;
         registers = table-alike every (functionsMax * registersEach) _ _ (λ j u. touched u);
         list = λ t. touched t;
-        hooks = λ t. touched t;
+        hooks = λ t. touched (sym t);
         used = table-alike every (functionsMax * markSize) _ _ (λ j u. touched u);
         cells = zeroed-alike _ (b .cells) (accepted-whole own (length (b .cells)) e .fits);
         own = alike _ own;
@@ -63,7 +64,7 @@ module _ (b : Reference) (s : Sound b) (own : List ℕ) where
       (λ e. keeps (mayTouch b Reset own) b own _)
       (λ e.
       records-left (mayTouch b Reset own) b own (referenceOutcome _ (fresh (b .records) (b .cells)) own) refl
-      (table-alike every (functionsMax * registersEach) _ _ (λ j u. touched u)) (λ t. touched t) (λ t. touched t)
+      (table-alike every (functionsMax * registersEach) _ _ (λ j u. touched u)) (λ t. touched t) (λ t. touched (sym t))
       (table-alike every (functionsMax * markSize) _ _ (λ j u. touched u)) (zeroed-alike _ (b .cells) (s .fits)) (alike _ own))
 
   image-length : length (imageBytes (b .records)) ≡ imageSize (length (b .records))
@@ -124,8 +125,14 @@ module _ (b : Reference) (s : Sound b) (own : List ℕ) where
   stays (SetCardUsed handle status callBack) = stays-used b own handle status callBack
   stays (Ask query) = keeps nothing b own _
 
-framed : (b : Reference) → Sound b → (c : Request) → Framed (mayTouch b (c .call) (c .own)) (partsOf b) (c .own) (stepOn (partsOf b) c)
-framed b s c = rw (same b s (c .call) (c .own) .answer, same b s (c .call) (c .own) .parts, same b s (c .call) (c .own) .own) (stays b s (c .own) (c .call))
+-- of one call on the parts of any sound state
+pub framed : (b : Reference) → Sound b → (c : Request) → CallFramed b (partsOf b) c (stepOn (partsOf b) c)
+framed b s c =
+    let n = same b s (c .call) (c .own) in
+    record {
+      parts = rw (n .answer, n .parts, n .own) (stays b s (c .own) (c .call));
+      lines = rw (n .answer, n .parts) (lines-framed b s (c .call) (c .own) (n .sound));
+    }
 
 pub frame : Frame
 frame cells cs c =

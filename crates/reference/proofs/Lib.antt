@@ -23,6 +23,7 @@ pub mod QueryRefused
 pub mod Refusal
 pub mod Alike
 pub mod Stays
+pub mod LinesStay
 pub mod Frame
 pub mod Like
 pub mod Quiet

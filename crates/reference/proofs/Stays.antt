@@ -24,7 +24,7 @@ use Rattle.call.specs.Answers.{ofStatus}
 use Rattle.reference.specs.State.{outcome}
 use Rattle.reference.specs.Reference.{Reference, ReferenceOutcome, referenceOutcome, isHandleOf, withCellsOf, sourceFor, lineFor, pinFor, withChainOf, withMarkOf, referenceStep}
 use Rattle.reference.specs.Run.{partsOf}
-use Rattle.reference.specs.Claims.{Touch, mayTouch, EqualOutside, Framed}
+use Rattle.reference.specs.Claims.{Touch, leavesHooks, mayTouch, EqualOutside, Framed}
 use Rattle.reference.proofs.Tests.{ifTest}
 use Rattle.reference.proofs.Alike.{alike, touched, table-alike}
 use Rattle.reference.proofs.Sound.{handle-within}
@@ -37,7 +37,7 @@ module _ (t : Touch) (b : Reference) (own : List ℕ) (r : ReferenceOutcome) (k 
   -- a call that leaves the records, and so header and offsets
   pub records-left : EqualOutside (t .registers) (partsOf (r .reference) .registers) (partsOf b .registers)
       → (t .list ≡ false → partsOf (r .reference) .windows ≡ partsOf b .windows)
-      → (t .hooks ≡ false → partsOf (r .reference) .hooks ≡ partsOf b .hooks)
+      → (leavesHooks (t .hooks) ≡ true → partsOf (r .reference) .hooks ≡ partsOf b .hooks)
       → EqualOutside (t .used) (partsOf (r .reference) .used) (partsOf b .used)
       → EqualOutside (t .cells) (r .reference .cells) (b .cells)
       → EqualOutside (t .own) (r .own) own
@@ -70,11 +70,11 @@ pub keeps : (t : Touch) (b : Reference) (own : List ℕ) (a : Answer) → Stays 
 keeps t b own a = own-only t b own own a (alike (t .own) own)
 
 -- a call that leaves the board but for a chain
-chain-only : (t : Touch) (b : Reference) (own : List ℕ) (a : Answer) (line : ℕ) (chain : List Hook) → t .hooks ≡ true
+chain-only : (t : Touch) (b : Reference) (own : List ℕ) (a : Answer) (line : ℕ) (chain : List Hook) → leavesHooks (t .hooks) ≡ false
     → Stays t b own (referenceOutcome a (withChainOf line chain b) own)
 unfolding partsOf
 chain-only t b own a line chain h =
-    records-left t b own (referenceOutcome a (withChainOf line chain b) own) refl (alike _ _) (λ e. refl) (λ e. touched (sym h ∙ e)) (alike _ _) (alike _ _)
+    records-left t b own (referenceOutcome a (withChainOf line chain b) own) refl (alike _ _) (λ e. refl) (λ e. touched (sym e ∙ h)) (alike _ _) (alike _ _)
     (alike _ own)
 
 module _ (b : Reference) (own : List ℕ) where

@@ -3,14 +3,15 @@
 --                      changes nothing; in every state, also one that no run reaches
 --   2 refinement       every run from the start is a run of the reference machine: the same
 --                      responses, and the lent parts that its state describes
---   3 frame            what a call may not touch is equal before and after it, after every run
+--   3 frame            what a call may not touch is equal before and after it, and the hooks of each
+--                      line are what they were but for the call's own entry; after every run
 --   4 noninterference  of two runs that differ in data calls through one handle alone, the
 --                      responses to all other calls are equal, and so are the boards after them
 --                      but for that function's cells and those past the total
 -- Demand3 is the four as one claim.
-use Prim.Native.Nat.{ℕ, _+_, _-_, _*_, _/_, _%_, _^_, _<_}
+use Prim.Native.Nat.{ℕ, _+_, _-_, _*_, _/_, _%_, _^_, _<_, _≤_}
 use mathlib.Core.Bool.{Bool, true, false, cond, _&&_}
-use mathlib.Core.List.{List, [], _∷_}
+use mathlib.Core.List.{List, [], _∷_, _++_}
 use mathlib.Core.Logic.{_⊎_}
 use mathlib.Core.Path.{_≡_}
 use lib.Dec.{eqb, leb, ltb}
@@ -34,6 +35,7 @@ use Rattle.board.specs.Spaces.{spaceNumber}
 use Rattle.data_cells.specs.declared.target.CellTarget.{CellTarget}
 use Rattle.data_cells.specs.declared.target.CellTarget.the-variants.{At, Refused}
 use Rattle.resource_descriptor.specs.Descriptor.{size}
+use Rattle.interrupt_array.specs.Hooks.{Hook, hook, lastLine, chainOf}
 use Rattle.resource.specs.Resource.{windowBases}
 use Rattle.cell_layout.specs.Cells.{slotCells, cellsBefore, total}
 use Rattle.image_layout.specs.Image.{imageSize}
@@ -74,6 +76,7 @@ use Rattle.reference.specs.Reference.{
   exponentOf,
   imageRecords,
   cellTargetFor,
+  lineFor,
   referenceStart,
 }
 use Rattle.reference.specs.Run.{
@@ -174,14 +177,28 @@ pub record Refines (cells : List ℕ) (cs : List Request) : Type 0 where
 abbrev pub Refinement : Type 0
 Refinement = (cells : List ℕ) (cs : List Request) → Refines cells cs
 
--- 3. FRAME. What a call may touch: header numbers, the records with their cell offsets, registers,
--- the kept window list, hooks, used marks, cells, its own bytes.
+-- 3. FRAME. What an accepted call does to the hooks of all lines: nothing, one put last on a line, one
+-- of a handle taken from a line, or all cleared.
+pub data HooksTouch : Type 0 where
+  hooksStay : HooksTouch
+  putLast : ℕ → Hook → HooksTouch
+  takenFrom : ℕ → ℕ → HooksTouch
+  allCleared : HooksTouch
+
+abbrev pub leavesHooks : HooksTouch → Bool
+leavesHooks hooksStay = true
+leavesHooks (putLast line h) = false
+leavesHooks (takenFrom line handle) = false
+leavesHooks allCleared = false
+
+-- What a call may touch: header numbers, the records with their cell offsets, registers, the kept
+-- window list, hooks, used marks, cells, its own bytes.
 pub record Touch : Type 0 where
   pub header : ℕ → Bool
   pub records : Bool
   pub registers : ℕ → Bool
   pub list : Bool
-  pub hooks : Bool
+  pub hooks : HooksTouch
   pub used : ℕ → Bool
   pub cells : ℕ → Bool
   pub own : ℕ → Bool
@@ -192,7 +209,7 @@ none i = false
 abbrev pub every : ℕ → Bool
 every i = true
 
-abbrev pub touch : (ℕ → Bool) → Bool → (ℕ → Bool) → Bool → Bool → (ℕ → Bool) → (ℕ → Bool)
+abbrev pub touch : (ℕ → Bool) → Bool → (ℕ → Bool) → Bool → HooksTouch → (ℕ → Bool) → (ℕ → Bool)
     → (ℕ → Bool) → Touch
 touch header records registers list hooks used cells own =
     record {
@@ -218,7 +235,7 @@ accessed w (At at order) j = leb at j && ltb j (at + w)
 accessed w (Refused r) j = false
 
 abbrev pub nothing : Touch
-nothing = touch none false none false false none none none
+nothing = touch none false none false hooksStay none none none
 
 -- what only a write touches
 abbrev pub ifWrites : Access → Touch → Touch
@@ -227,27 +244,29 @@ ifWrites access t = cond (writes access) t nothing
 -- document 01's list, "Runs and the book"; the header's first number is the count of the records
 unfoldable pub mayTouch : Reference → Call → List ℕ → Touch
 mayTouch b Load own =
-    touch (λ i. eqb i 0) true every true true every
+    touch (λ i. eqb i 0) true every true allCleared every
     (λ i. ltb i (total (exponentOf (imageRecords own)))) none
 mayTouch b Reset own =
-    touch none false every true true every (λ i. ltb i (total (exponentOf (b .records)))) none
+    touch none false every true allCleared every (λ i. ltb i (total (exponentOf (b .records)))) none
 mayTouch b WriteImage own =
-    touch none false none false false none none (λ i. ltb i (imageSize (length (b .records))))
+    touch none false none false hooksStay none none (λ i. ltb i (imageSize (length (b .records))))
 mayTouch b (Config width handle register access) own =
     ifWrites access
     (touch none false (addressed (bytes width) handle register)
-    (movesWindows (bytes width) register) false none none none)
+    (movesWindows (bytes width) register) hooksStay none none none)
 mayTouch b (Data space width handle address access) own =
     let target = cellTargetFor b (bytes width) (spaceNumber space) handle (address .0) in
-    ifWrites access (touch none false none false false none (accessed (bytes width) target) none)
+    ifWrites access (touch none false none false hooksStay none (accessed (bytes width) target) none)
 mayTouch b (GetResource handle) own =
-    touch none false none false false none none
+    touch none false none false hooksStay none none
     (λ i. ltb i (size * length (windowBases (exponentOf (b .records) (handle - 1)))))
 mayTouch b (HookInterrupt handle handler parameter) own =
-    touch none false none false true none none none
-mayTouch b (UnhookInterrupt handle) own = touch none false none false true none none none
+    touch none false none false (putLast (lineFor b handle) (hook handle handler parameter))
+    none none none
+mayTouch b (UnhookInterrupt handle) own =
+    touch none false none false (takenFrom (lineFor b handle) handle) none none none
 mayTouch b (SetCardUsed handle status callBack) own =
-    touch none false none false false (λ j. eqb (j / markSize + 1) handle) none none
+    touch none false none false hooksStay (λ j. eqb (j / markSize + 1) handle) none none
 mayTouch b (Ask query) own = nothing
 
 -- two lists have the same length, and the same wherever a touch is not allowed
@@ -262,17 +281,46 @@ pub record Framed (t : Touch) (p : Parts) (lent : List ℕ) (n : Outcome) : Type
   pub offsets : t .records ≡ false → n .parts .cellOffsets ≡ p .cellOffsets
   pub registers : EqualOutside (t .registers) (n .parts .registers) (p .registers)
   pub list : t .list ≡ false → n .parts .windows ≡ p .windows
-  pub hooks : t .hooks ≡ false → n .parts .hooks ≡ p .hooks
+  pub hooks : leavesHooks (t .hooks) ≡ true → n .parts .hooks ≡ p .hooks
   pub used : EqualOutside (t .used) (n .parts .used) (p .used)
   pub cells : EqualOutside (t .cells) (n .parts .cells) (p .cells)
   pub own : EqualOutside (t .own) (n .own) lent
+
+-- a hook of a handle goes, the others keep their order
+pub record TakenOut (handle : ℕ) (old new : List Hook) : Type 0 where
+  pub before : List Hook
+  pub entry : Hook
+  pub after : List Hook
+  pub its : entry .handle ≡ handle
+  pub stood : old ≡ before ++ entry ∷ after
+  pub left : new ≡ before ++ after
+
+-- the hooks of a line before and after an accepted call
+abbrev pub OnLine : HooksTouch → ℕ → List Hook → List Hook → Type 0
+OnLine hooksStay line old new = new ≡ old
+OnLine (putLast own h) line old new =
+    (line ≡ own → new ≡ old ++ h ∷ []) × ((line ≡ own → ⊥) → new ≡ old)
+OnLine (takenFrom own handle) line old new =
+    (line ≡ own → TakenOut handle old new) × ((line ≡ own → ⊥) → new ≡ old)
+OnLine allCleared line old new = new ≡ []
+
+-- of every line there is; a refused call leaves them all
+abbrev pub LinesFramed : HooksTouch → Parts → Outcome → Type 0
+LinesFramed t p n =
+    (line : ℕ) → line ≤ lastLine
+    → OnLine (cond (n .answer .refused) hooksStay t) line
+    (chainOf (p .records) (p .hooks) line) (chainOf (n .parts .records) (n .parts .hooks) line)
+
+pub record CallFramed (b : Reference) (p : Parts) (c : Request) (n : Outcome) : Type 0 where
+  pub parts : Framed (mayTouch b (c .call) (c .own)) p (c .own) n
+  pub lines : LinesFramed (mayTouch b (c .call) (c .own) .hooks) p n
 
 -- after every run
 abbrev pub Frame : Type 0
 Frame =
     (cells : List ℕ) (cs : List Request) (c : Request)
-    → Framed (mayTouch (referenceAfter (referenceStart cells) cs) (c .call) (c .own))
-    (partsAfter (start cells) cs) (c .own) (stepOn (partsAfter (start cells) cs) c)
+    → CallFramed (referenceAfter (referenceStart cells) cs) (partsAfter (start cells) cs) c
+    (stepOn (partsAfter (start cells) cs) c)
 
 -- 4. NONINTERFERENCE. The handle that a call goes through, and whether for data.
 pub data Through : Type 0 where
