@@ -73,8 +73,8 @@ row c a = record { call = c; own = []; answer = a; left = [] }
 abbrev pub gives : Call → List ℕ → Row
 gives c values = row c (said (pos 0) false values)
 
-abbrev pub minus : Call → ℕ → Row
-minus c n = row c (said (negℤ (pos n)) true [])
+abbrev pub givesMinus : Call → ℕ → Row
+givesMinus c n = row c (said (negℤ (pos n)) true [])
 
 -- a search finds a handle; a refused fast read gives all ones and no number
 abbrev pub finds : Query → ℕ → Row
@@ -84,8 +84,8 @@ abbrev pub faults : Call → ℕ → Row
 faults c ones = row c (said (pos 0) true (ones ∷ []))
 
 -- with a buffer: what it holds before and after
-abbrev pub buffer : Call → List ℕ → ℤ → Bool → List ℕ → Row
-buffer c own number refused left =
+abbrev pub leaves : Call → List ℕ → ℤ → Bool → List ℕ → Row
+leaves c own number refused left =
     record { call = c; own = own; answer = said number refused []; left = left }
 
 -- a load that is refused, with a place
@@ -99,7 +99,7 @@ loadGives image number place =
     }
 
 abbrev pub loads : List ℕ → Row
-loads image = buffer Load image (pos 0) false image
+loads image = leaves Load image (pos 0) false image
 
 -- calls one after the other from the start, with these cells
 pub record Run : Type 0 where
@@ -122,7 +122,7 @@ dirty n = replicate n 0xAA
 abbrev pub onSmall : List Row → Run
 onSmall rows = run (dirty 21) (loads smallImage ∷ rows)
 
--- a query; a data call of handle 1 in memory and in I/O; a configuration call of handle 1
+-- a query that is answered
 abbrev pub ask : Query → List ℕ → Row
 ask q values = gives (Ask q) values
 
@@ -130,27 +130,27 @@ ask q values = gives (Ask q) values
 abbrev pub beforeLoad : Run
 beforeLoad =
     run (dirty 21)
-    (minus (Ask (FindPciDevice 0x0000FFFF 0)) 4
-    ∷ minus (Ask (ListWindow 0)) 4
-    ∷ minus (Ask (ListChain 15 0)) 4
-    ∷ minus (Ask (ListChain 16 0)) 8
-    ∷ minus (Config Word 1 1 Read) 9
+    (givesMinus (Ask (FindPciDevice 0x0000FFFF 0)) 4
+    ∷ givesMinus (Ask (ListWindow 0)) 4
+    ∷ givesMinus (Ask (ListChain 15 0)) 4
+    ∷ givesMinus (Ask (ListChain 16 0)) 8
+    ∷ givesMinus (Config Word 1 1 Read) 9
     ∷ faults (Config Word 1 0 FastRead) 0xFFFF
-    ∷ minus (Config Byte 0 0 (Write 1)) 9
-    ∷ minus (Data Memory Long 1 (bus 1) Read) 9
-    ∷ minus (GetResource 1) 9
-    ∷ minus (HookInterrupt 1 1 1) 9
-    ∷ minus (UnhookInterrupt 1) 9
-    ∷ minus (SetCardUsed 1 4 0) 9
-    ∷ minus (Ask (GetCardUsed 1)) 9
-    ∷ minus (Ask (BusToCpu 1 (bus 7))) 9
-    ∷ minus (Ask (CpuToBus 1 (cpu 7))) 9
-    ∷ minus (Ask (SpecialCycle 1 2)) 2
-    ∷ minus (Ask (GetRouting 1)) 2
-    ∷ minus (Ask (SetInterrupt 1 2)) 2
+    ∷ givesMinus (Config Byte 0 0 (Write 1)) 9
+    ∷ givesMinus (Data Memory Long 1 (bus 1) Read) 9
+    ∷ givesMinus (GetResource 1) 9
+    ∷ givesMinus (HookInterrupt 1 1 1) 9
+    ∷ givesMinus (UnhookInterrupt 1) 9
+    ∷ givesMinus (SetCardUsed 1 4 0) 9
+    ∷ givesMinus (Ask (GetCardUsed 1)) 9
+    ∷ givesMinus (Ask (BusToCpu 1 (bus 7))) 9
+    ∷ givesMinus (Ask (CpuToBus 1 (cpu 7))) 9
+    ∷ givesMinus (Ask (SpecialCycle 1 2)) 2
+    ∷ givesMinus (Ask (GetRouting 1)) 2
+    ∷ givesMinus (Ask (SetInterrupt 1 2)) 2
     ∷ gives Reset []
-    ∷ buffer WriteImage (dirty 11) (pos 1) true (dirty 11)
-    ∷ buffer WriteImage (dirty 12) (pos 3) true (dirty 12)
+    ∷ leaves WriteImage (dirty 11) (pos 1) true (dirty 11)
+    ∷ leaves WriteImage (dirty 12) (pos 3) true (dirty 12)
     ∷ [])
 
 -- a trailer alone: the low byte of the distance, the count, the edition
@@ -176,33 +176,32 @@ refusedLoads =
     ∷ loadGives (imageWith vendor 0x11 0x7B) 6 0
     ∷ loadGives (imageWith large 0x09 0xFF) 7 0
     ∷ loadGives smallImage 8 0
-    ∷ minus (Ask (FindPciDevice 0x0000FFFF 0)) 4
+    ∷ givesMinus (Ask (FindPciDevice 0x0000FFFF 0)) 4
     ∷ [])
 
 -- searches: both sides of the index; vendor FFFFh with any device ID; device FFFFh; the class bits
 -- 24, 25 and 26 each alone against the one byte that differs, and bits 31 to 27
-abbrev pub searches : Run
-searches =
+abbrev pub searchCalls : Run
+searchCalls =
     onSmall
     (finds (FindPciDevice 0x56781234 0) 1
-    ∷ minus (Ask (FindPciDevice 0x56781234 1)) 4
-    ∷ minus (Ask (FindPciDevice 0x56781234 0xFFFFFFFF)) 4
+    ∷ givesMinus (Ask (FindPciDevice 0x56781234 1)) 4
+    ∷ givesMinus (Ask (FindPciDevice 0x56781234 0xFFFFFFFF)) 4
     ∷ finds (FindPciDevice 0x1234FFFF 0) 1
-    ∷ minus (Ask (FindPciDevice 0x1234FFFF 1)) 4
-    ∷ minus (Ask (FindPciDevice 0xFFFF1234 0)) 4
-    ∷ minus (Ask (FindPciDevice 0x12345678 0)) 4
+    ∷ givesMinus (Ask (FindPciDevice 0x1234FFFF 1)) 4
+    ∷ givesMinus (Ask (FindPciDevice 0xFFFF1234 0)) 4
+    ∷ givesMinus (Ask (FindPciDevice 0x12345678 0)) 4
     ∷ finds (FindPciClasscode 0x00118001 0) 1
     ∷ finds (FindPciClasscode 0xF8118001 0) 1
     ∷ finds (FindPciClasscode 0x01118002 0) 1
-    ∷ minus (Ask (FindPciClasscode 0xFE118002 0)) 4
+    ∷ givesMinus (Ask (FindPciClasscode 0xFE118002 0)) 4
     ∷ finds (FindPciClasscode 0x02118101 0) 1
-    ∷ minus (Ask (FindPciClasscode 0xFD118101 0)) 4
+    ∷ givesMinus (Ask (FindPciClasscode 0xFD118101 0)) 4
     ∷ finds (FindPciClasscode 0x04128001 0) 1
-    ∷ minus (Ask (FindPciClasscode 0xFB128001 0)) 4
+    ∷ givesMinus (Ask (FindPciClasscode 0xFB128001 0)) 4
     ∷ [])
 
--- the two windows listed; conversions that wrap each way; descriptors with a buffer that is a byte
--- short and one that is a byte longer; the calls that always give -2
+-- the two windows as they are listed
 abbrev pub memoryWindow : List ℕ
 memoryWindow = 0 ∷ 0xFFFFFFF0 ∷ 0x10 ∷ 1 ∷ 0 ∷ 0 ∷ []
 
@@ -218,101 +217,105 @@ descriptorOf high low top third least length =
     ∷ 0xF0 ∷ 0 ∷ 0 ∷ 0x10
     ∷ 0 ∷ 0 ∷ 0 ∷ 7 ∷ []
 
-abbrev pub listings : Run
-listings =
+-- the window listing up to its end; conversions that wrap each way; descriptors with a buffer that
+-- is a byte short and one that is a byte longer; the calls that always give -2
+abbrev pub listingCalls : Run
+listingCalls =
     onSmall
     (ask (ListWindow 0) memoryWindow
     ∷ ask (ListWindow 1) ioWindow
-    ∷ minus (Ask (ListWindow 2)) 4
-    ∷ minus (Ask (ListWindow 0xFFFFFFFF)) 4
+    ∷ givesMinus (Ask (ListWindow 2)) 4
+    ∷ givesMinus (Ask (ListWindow 0xFFFFFFFF)) 4
     ∷ ask (BusToCpu 1 (bus 0x0FFFFFEF)) (0xFFFFFFFF ∷ [])
     ∷ ask (BusToCpu 1 (bus 0x0FFFFFF0)) (0 ∷ [])
     ∷ ask (BusToCpu 1 (bus 0xFFFFFFF0)) (0xF0000000 ∷ [])
     ∷ ask (CpuToBus 1 (cpu 0x00000010)) (0x10000000 ∷ [])
     ∷ ask (CpuToBus 1 (cpu 0xF0000000)) (0xFFFFFFF0 ∷ [])
-    ∷ minus (Ask (BusToCpu 2 (bus 1))) 9
-    ∷ minus (Ask (CpuToBus 0 (cpu 1))) 9
-    ∷ buffer (GetResource 1) (dirty 39) (negℤ (pos 7)) true (dirty 39)
-    ∷ buffer (GetResource 1) (dirty 41) (pos 0) false
-    (descriptorOf 0x03 0x01 0xFF 0xFF 0xF0 0x10 ++ (descriptorOf 0xC4 0x0F 0 0x01 0x04 4 ++ dirty 1))
-    ∷ minus (GetResource 2) 9
-    ∷ minus (Ask (SpecialCycle 1 2)) 2
-    ∷ minus (Ask (GetRouting 2)) 2
-    ∷ minus (Ask (SetInterrupt 2 3)) 2
+    ∷ givesMinus (Ask (BusToCpu 2 (bus 1))) 9
+    ∷ givesMinus (Ask (CpuToBus 0 (cpu 1))) 9
+    ∷ leaves (GetResource 1) (dirty 39) (negℤ (pos 7)) true (dirty 39)
+    ∷ leaves (GetResource 1) (dirty 41) (pos 0) false
+    (descriptorOf 0x03 0x01 0xFF 0xFF 0xF0 0x10
+    ++ (descriptorOf 0xC4 0x0F 0 0x01 0x04 4 ++ dirty 1))
+    ∷ givesMinus (GetResource 2) 9
+    ∷ givesMinus (Ask (SpecialCycle 1 2)) 2
+    ∷ givesMinus (Ask (GetRouting 2)) 2
+    ∷ givesMinus (Ask (SetInterrupt 2 3)) 2
     ∷ [])
 
--- data: a loaded cell is 0; the last cell of a window that ends at 2^32, and address 0; each refusal,
--- -8 before -2; order 1 in words and bytes, order 15 in longwords; the low byte of a value; fast reads
-abbrev pub memory : ℕ → Width → Access → Call
-memory address width access = Data Memory width 1 (bus address) access
+-- a data call through handle 1
+abbrev pub memoryCall : ℕ → Width → Access → Call
+memoryCall address width access = Data Memory width 1 (bus address) access
 
-abbrev pub io : ℕ → Width → Access → Call
-io address width access = Data Io width 1 (bus address) access
+abbrev pub ioCall : ℕ → Width → Access → Call
+ioCall address width access = Data Io width 1 (bus address) access
 
+-- a loaded cell is 0; the last cell of a window that ends at 2^32, and address 0; each refusal, -8
+-- before -2; order 1 in words and bytes, order 15 in longwords; the low byte of a value; fast reads
 abbrev pub dataCalls : Run
 dataCalls =
     onSmall
-    (gives (memory 0xFFFFFFF0 Byte Read) []
-    ∷ gives (memory 0xFFFFFFFF Byte Read) []
-    ∷ minus (memory 0xFFFFFFEF Byte Read) 8
-    ∷ minus (memory 0x00000000 Byte Read) 8
-    ∷ minus (memory 0xFFFFFFF1 Word Read) 8
-    ∷ minus (memory 0xFFFFFFF2 Long Read) 8
-    ∷ minus (memory 0xFFFFFFF0 Long Read) 2
-    ∷ minus (memory 0x00000104 Long Read) 8
-    ∷ minus (Data Memory Byte 2 (bus 0xFFFFFFF0) Read) 9
-    ∷ gives (memory 0xFFFFFFF0 Word (Write 0xABCD)) []
-    ∷ gives (memory 0xFFFFFFF0 Word Read) (0xABCD ∷ [])
-    ∷ gives (memory 0xFFFFFFF0 Word FastRead) (0xABCD ∷ [])
-    ∷ gives (memory 0xFFFFFFF0 Byte Read) (0xCD ∷ [])
-    ∷ gives (memory 0xFFFFFFF1 Byte Read) (0xAB ∷ [])
-    ∷ gives (memory 0xFFFFFFF2 Byte Read) []
-    ∷ gives (memory 0xFFFFFFFF Byte (Write 0x1EE)) []
-    ∷ gives (memory 0xFFFFFFFF Byte Read) (0xEE ∷ [])
-    ∷ gives (memory 0xFFFFFFFE Word Read) (0xEE00 ∷ [])
-    ∷ gives (io 0x104 Long (Write 0x11223344)) []
-    ∷ gives (io 0x104 Long Read) (0x11223344 ∷ [])
-    ∷ minus (io 0x104 Byte Read) 2
-    ∷ minus (io 0x105 Long (Write 1)) 8
-    ∷ minus (io 0x108 Long (Write 1)) 8
-    ∷ minus (io 0x100 Long (Write 1)) 8
-    ∷ faults (io 0x104 Byte FastRead) 0xFF
-    ∷ faults (io 0x105 Word FastRead) 0xFFFF
-    ∷ faults (io 0x108 Long FastRead) 0xFFFFFFFF
+    (gives (memoryCall 0xFFFFFFF0 Byte Read) []
+    ∷ gives (memoryCall 0xFFFFFFFF Byte Read) []
+    ∷ givesMinus (memoryCall 0xFFFFFFEF Byte Read) 8
+    ∷ givesMinus (memoryCall 0x00000000 Byte Read) 8
+    ∷ givesMinus (memoryCall 0xFFFFFFF1 Word Read) 8
+    ∷ givesMinus (memoryCall 0xFFFFFFF2 Long Read) 8
+    ∷ givesMinus (memoryCall 0xFFFFFFF0 Long Read) 2
+    ∷ givesMinus (memoryCall 0x00000104 Long Read) 8
+    ∷ givesMinus (Data Memory Byte 2 (bus 0xFFFFFFF0) Read) 9
+    ∷ gives (memoryCall 0xFFFFFFF0 Word (Write 0xABCD)) []
+    ∷ gives (memoryCall 0xFFFFFFF0 Word Read) (0xABCD ∷ [])
+    ∷ gives (memoryCall 0xFFFFFFF0 Word FastRead) (0xABCD ∷ [])
+    ∷ gives (memoryCall 0xFFFFFFF0 Byte Read) (0xCD ∷ [])
+    ∷ gives (memoryCall 0xFFFFFFF1 Byte Read) (0xAB ∷ [])
+    ∷ gives (memoryCall 0xFFFFFFF2 Byte Read) []
+    ∷ gives (memoryCall 0xFFFFFFFF Byte (Write 0x1EE)) []
+    ∷ gives (memoryCall 0xFFFFFFFF Byte Read) (0xEE ∷ [])
+    ∷ gives (memoryCall 0xFFFFFFFE Word Read) (0xEE00 ∷ [])
+    ∷ gives (ioCall 0x104 Long (Write 0x11223344)) []
+    ∷ gives (ioCall 0x104 Long Read) (0x11223344 ∷ [])
+    ∷ givesMinus (ioCall 0x104 Byte Read) 2
+    ∷ givesMinus (ioCall 0x105 Long (Write 1)) 8
+    ∷ givesMinus (ioCall 0x108 Long (Write 1)) 8
+    ∷ givesMinus (ioCall 0x100 Long (Write 1)) 8
+    ∷ faults (ioCall 0x104 Byte FastRead) 0xFF
+    ∷ faults (ioCall 0x105 Word FastRead) 0xFFFF
+    ∷ faults (ioCall 0x108 Long FastRead) 0xFFFFFFFF
     ∷ [])
 
 -- registers and windows: each command bit alone; a base register that is not 0 with start 0; closed
 -- windows in descriptors; masks; -5, and -9 before it; reset
-abbrev pub registers : Run
-registers =
+abbrev pub registerCalls : Run
+registerCalls =
     onSmall
     (gives (Config Byte 1 0x04 (Write 0x01)) []
     ∷ ask (ListWindow 0) ioWindow
-    ∷ minus (Ask (ListWindow 1)) 4
-    ∷ minus (memory 0xFFFFFFF0 Byte Read) 8
+    ∷ givesMinus (Ask (ListWindow 1)) 4
+    ∷ givesMinus (memoryCall 0xFFFFFFF0 Byte Read) 8
     ∷ gives (Config Byte 1 0x04 (Write 0x02)) []
     ∷ ask (ListWindow 0) memoryWindow
-    ∷ minus (Ask (ListWindow 1)) 4
-    ∷ minus (io 0x104 Long Read) 8
+    ∷ givesMinus (Ask (ListWindow 1)) 4
+    ∷ givesMinus (ioCall 0x104 Long Read) 8
     ∷ gives (Config Byte 1 0x04 (Write 0xFC)) []
-    ∷ minus (Ask (ListWindow 0)) 4
-    ∷ buffer (GetResource 1) (dirty 40) (pos 0) false
+    ∷ givesMinus (Ask (ListWindow 0)) 4
+    ∷ leaves (GetResource 1) (dirty 40) (pos 0) false
     (descriptorOf 0x03 0x01 0 0 0 0x10 ++ descriptorOf 0xC4 0x0F 0 0 0 4)
     ∷ gives (Config Byte 1 0x04 (Write 0xFF)) []
     ∷ gives (Config Word 1 0x04 Read) (0x0003 ∷ [])
     ∷ gives (Config Long 1 0x10 (Write 0)) []
     ∷ gives (Config Long 1 0x10 Read) (0x00000008 ∷ [])
     ∷ ask (ListWindow 0) ioWindow
-    ∷ minus (memory 0x00000000 Byte Read) 8
+    ∷ givesMinus (memoryCall 0x00000000 Byte Read) 8
     ∷ gives (Config Long 1 0x14 (Write 0)) []
     ∷ gives (Config Long 1 0x14 Read) (0x00000001 ∷ [])
-    ∷ minus (Ask (ListWindow 0)) 4
+    ∷ givesMinus (Ask (ListWindow 0)) 4
     ∷ gives Reset []
     ∷ gives (Config Long 1 0x10 Read) (0xFFFFFFF8 ∷ [])
     ∷ ask (ListWindow 1) ioWindow
-    ∷ minus (Config Word 1 0x01 Read) 5
-    ∷ minus (Config Long 1 0x02 Read) 5
-    ∷ minus (Config Long 2 0x02 (Write 0)) 9
+    ∷ givesMinus (Config Word 1 0x01 Read) 5
+    ∷ givesMinus (Config Long 1 0x02 Read) 5
+    ∷ givesMinus (Config Long 2 0x02 (Write 0)) 9
     ∷ faults (Config Long 1 0x02 FastRead) 0xFFFFFFFF
     ∷ gives (Config Long 1 0x00 FastRead) (0x56781234 ∷ [])
     ∷ gives (Config Byte 1 0xFF (Write 0xFF)) []
@@ -321,24 +324,24 @@ registers =
 
 -- hooks and marks: line 15, lines above it, hooked twice, not hooked, no rerouting, hooked again;
 -- used 0 to 4 with a call-back; a refused load leaves them, a reset clears them
-abbrev pub hooksAndMarks : Run
-hooksAndMarks =
+abbrev pub hookAndMarkCalls : Run
+hookAndMarkCalls =
     onSmall
-    (minus (UnhookInterrupt 1) 8
-    ∷ minus (UnhookInterrupt 2) 9
-    ∷ minus (Ask (ListChain 15 0)) 4
-    ∷ minus (Ask (ListChain 16 0)) 8
-    ∷ minus (Ask (ListChain 255 0)) 8
-    ∷ minus (HookInterrupt 2 0x11 0x22) 9
+    (givesMinus (UnhookInterrupt 1) 8
+    ∷ givesMinus (UnhookInterrupt 2) 9
+    ∷ givesMinus (Ask (ListChain 15 0)) 4
+    ∷ givesMinus (Ask (ListChain 16 0)) 8
+    ∷ givesMinus (Ask (ListChain 255 0)) 8
+    ∷ givesMinus (HookInterrupt 2 0x11 0x22) 9
     ∷ gives (HookInterrupt 1 0x11 0x22) []
-    ∷ minus (HookInterrupt 1 0x33 0x44) 6
+    ∷ givesMinus (HookInterrupt 1 0x33 0x44) 6
     ∷ ask (ListChain 15 0) (1 ∷ 0x11 ∷ 0x22 ∷ [])
-    ∷ minus (Ask (ListChain 15 1)) 4
+    ∷ givesMinus (Ask (ListChain 15 1)) 4
     ∷ gives (Config Byte 1 0x3C (Write 14)) []
     ∷ ask (ListChain 15 0) (1 ∷ 0x11 ∷ 0x22 ∷ [])
-    ∷ minus (Ask (ListChain 14 0)) 4
+    ∷ givesMinus (Ask (ListChain 14 0)) 4
     ∷ gives (UnhookInterrupt 1) []
-    ∷ minus (Ask (ListChain 15 0)) 4
+    ∷ givesMinus (Ask (ListChain 15 0)) 4
     ∷ gives (HookInterrupt 1 0x33 0x44) []
     ∷ ask (ListChain 15 0) (1 ∷ 0x33 ∷ 0x44 ∷ [])
     ∷ ask (GetCardUsed 1) []
@@ -348,9 +351,9 @@ hooksAndMarks =
     ∷ ask (GetCardUsed 1) (3 ∷ 0 ∷ [])
     ∷ gives (SetCardUsed 1 2 0xCC) []
     ∷ ask (GetCardUsed 1) (2 ∷ 0xCC ∷ [])
-    ∷ minus (SetCardUsed 1 4 0xDD) 8
-    ∷ minus (SetCardUsed 2 4 0xDD) 9
-    ∷ minus (Ask (GetCardUsed 2)) 9
+    ∷ givesMinus (SetCardUsed 1 4 0xDD) 8
+    ∷ givesMinus (SetCardUsed 2 4 0xDD) 9
+    ∷ givesMinus (Ask (GetCardUsed 2)) 9
     ∷ loadGives (dirty 11) 1 0
     ∷ ask (GetCardUsed 1) (2 ∷ 0xCC ∷ [])
     ∷ ask (ListChain 15 0) (1 ∷ 0x33 ∷ 0x44 ∷ [])
@@ -359,22 +362,22 @@ hooksAndMarks =
     ∷ gives (SetCardUsed 1 2 0xDD) []
     ∷ gives Reset []
     ∷ ask (GetCardUsed 1) []
-    ∷ minus (Ask (ListChain 15 0)) 4
+    ∷ givesMinus (Ask (ListChain 15 0)) 4
     ∷ [])
 
 -- the writer: a byte short; the loaded values, not the current ones; output past the image stays
-abbrev pub writer : Run
-writer =
+abbrev pub writerCalls : Run
+writerCalls =
     onSmall
-    (buffer WriteImage (dirty 555) (pos 1) true (dirty 555)
+    (leaves WriteImage (dirty 555) (pos 1) true (dirty 555)
     ∷ gives (Config Byte 1 0x3C (Write 3)) []
-    ∷ buffer WriteImage (dirty 557) (pos 0) false (smallImage ++ dirty 1)
+    ∷ leaves WriteImage (dirty 557) (pos 0) false (smallImage ++ dirty 1)
     ∷ [])
 
 abbrev pub runTable : List Run
 runTable =
-    beforeLoad ∷ refusedLoads ∷ searches ∷ listings ∷ dataCalls ∷ registers ∷ hooksAndMarks ∷ writer
-    ∷ []
+    beforeLoad ∷ refusedLoads ∷ searchCalls ∷ listingCalls ∷ dataCalls ∷ registerCalls
+    ∷ hookAndMarkCalls ∷ writerCalls ∷ []
 
 -- what a machine answers from the start with any cells
 abbrev pub CellsMachine : Type 0

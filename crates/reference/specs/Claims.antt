@@ -3,8 +3,8 @@
 --                      changes nothing; in every state, also one that no run reaches
 --   2 refinement       every run from the start is a run of the reference machine: the same
 --                      responses, and the lent parts that its state describes
---   3 frame            what a call may not touch is equal before and after it, and the hooks of each
---                      line are what they were but for the call's own entry; after every run
+--   3 frame            what a call may not touch is equal before and after it, and each line's
+--                      hooks are what they were but for the call's own entry; after every run
 --   4 noninterference  of two runs that differ in data calls through one handle alone, the
 --                      responses to all other calls are equal, and so are the boards after them
 --                      but for that function's cells and those past the total
@@ -177,8 +177,8 @@ pub record Refines (cells : List ℕ) (cs : List Request) : Type 0 where
 abbrev pub Refinement : Type 0
 Refinement = (cells : List ℕ) (cs : List Request) → Refines cells cs
 
--- 3. FRAME. What an accepted call does to the hooks of all lines: nothing, one put last on a line, one
--- of a handle taken from a line, or all cleared.
+-- 3. FRAME. What an accepted call does to the hooks of all lines: nothing, one put last on a line,
+-- one of a handle taken from a line, or all cleared.
 pub data HooksTouch : Type 0 where
   hooksStay : HooksTouch
   putLast : ℕ → Hook → HooksTouch
@@ -256,7 +256,8 @@ mayTouch b (Config width handle register access) own =
     (movesWindows (bytes width) register) hooksStay none none none)
 mayTouch b (Data space width handle address access) own =
     let target = cellTargetFor b (bytes width) (spaceNumber space) handle (address .0) in
-    ifWrites access (touch none false none false hooksStay none (accessed (bytes width) target) none)
+    ifWrites access
+    (touch none false none false hooksStay none (accessed (bytes width) target) none)
 mayTouch b (GetResource handle) own =
     touch none false none false hooksStay none none
     (λ i. ltb i (size * length (windowBases (exponentOf (b .records) (handle - 1)))))
