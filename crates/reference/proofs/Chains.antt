@@ -15,18 +15,17 @@ use Rattle.interrupt_list.specs.declared.listing.ChainListing.{ChainListing}
 use Rattle.interrupt_list.proofs.Listings.{chain-number, chain-values}
 use Rattle.interrupt_hook.proofs.Room.{without-once}
 use Rattle.call.specs.declared.answer.Answer.{Answer}
-use Rattle.call.specs.declared.call.Call.the-variants.{HookInterrupt, UnhookInterrupt}
 use Rattle.call.specs.declared.call.Query.the-variants.{ListChain}
 use Rattle.call.specs.Answers.{ofStatus, ofChain}
-use Rattle.reference.specs.State.{outcome, step, queried}
-use Rattle.reference.specs.Reference.{Reference, ReferenceOutcome, referenceOutcome, lineFor, pinFor, withChainOf, referenceStep, referenceQueried}
+use Rattle.reference.specs.State.{outcome, hookOn, unhookOn, queried}
+use Rattle.reference.specs.Reference.{Reference, ReferenceOutcome, referenceOutcome, lineFor, pinFor, withChainOf, hookOf, unhookOf, referenceQueried}
 use Rattle.reference.specs.Run.{partsOf}
 use Rattle.reference.proofs.Tests.{ifBoth, ifAlike}
 use Rattle.reference.proofs.Registers.{kept-byte}
 use Rattle.reference.proofs.Among.{every-without, packed-without}
 use Rattle.reference.proofs.Lines.{allLines}
 use Rattle.reference.proofs.Chained.{On, Chained, among-lines, without-lines, chained-changed, chained-hook}
-use Rattle.reference.proofs.Sound.{Sound, sound-with, Same, Simulated, Answered, as-outcome, handle-same, handle-within}
+use Rattle.reference.proofs.Sound.{Sound, sound-with, Same, Answered, as-outcome, handle-same, handle-within}
 use Rattle.reference.proofs.HookArray.{lentRecords, line-kept, few, hooked-same, room, free-same, hook-lines, chain-same}
 
 module _ (b : Reference) (s : Sound b) where
@@ -46,8 +45,8 @@ module _ (b : Reference) (s : Sound b) where
   abbrev Changes : List ℕ → HookOutcome → ReferenceOutcome → Type 0
   Changes own w t = Same (outcome (ofStatus (w .status)) (withHooks (w .hooks) (partsOf b)) own) t
 
-  pub same-hook : (handle handler parameter : ℕ) (own : List ℕ) → Simulated b (HookInterrupt handle handler parameter) own
-  unfolding step referenceStep partsOf
+  pub same-hook : (handle handler parameter : ℕ) (own : List ℕ) → Same (hookOn (partsOf b) handle handler parameter own) (hookOf b handle handler parameter own)
+  unfolding partsOf
   same-hook handle handler parameter own =
       let line = lineFor b handle in
       let pin-kept : pinOf (lentRecords b) handle ≡ pinFor b handle = kept-byte (b .records) (s .kept .sized) (handle - 1) 0x3D (omega arith) in
@@ -68,8 +67,8 @@ module _ (b : Reference) (s : Sound b) where
       (λ r. as-outcome b s))
       (λ g. as-outcome b s)
 
-  pub same-unhook : (handle : ℕ) (own : List ℕ) → Simulated b (UnhookInterrupt handle) own
-  unfolding step referenceStep partsOf
+  pub same-unhook : (handle : ℕ) (own : List ℕ) → Same (unhookOn (partsOf b) handle own) (unhookOf b handle own)
+  unfolding partsOf
   same-unhook handle own =
       let line = lineFor b handle in
       ifAlike (Changes own) (handle-same b s handle)

@@ -22,8 +22,8 @@ pub mod Refused
 pub mod QueryRefused
 pub mod Refusal
 pub mod Alike
-pub mod Stays
 pub mod LinesStay
+pub mod Stays
 pub mod Frame
 pub mod Like
 pub mod Quiet

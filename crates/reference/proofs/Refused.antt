@@ -17,7 +17,7 @@ use Rattle.call.specs.declared.answer.Answer.{Answer}
 use Rattle.call.specs.declared.call.Call.{Call}
 use Rattle.call.specs.declared.call.Call.the-variants.{GetResource, HookInterrupt, UnhookInterrupt, SetCardUsed}
 use Rattle.call.specs.Answers.{ofStatus}
-use Rattle.reference.specs.State.{Outcome, outcome, step}
+use Rattle.reference.specs.State.{Outcome, outcome, step, hookOn, unhookOn}
 use Rattle.reference.specs.Claims.{Among, refusals, Filler, Untouched}
 use Rattle.reference.proofs.Tests.{ifTest}
 
@@ -48,8 +48,7 @@ module _ (p : Parts) (own : List ℕ) where
       (λ g f. untouched (inl refl) refl)
 
   pub kept-hook : (handle handler parameter : ℕ)
-      → Kept p (HookInterrupt handle handler parameter) own (step p (HookInterrupt handle handler parameter) own)
-  unfolding step
+      → Kept p (HookInterrupt handle handler parameter) own (hookOn p handle handler parameter own)
   kept-hook handle handler parameter =
       let P : HookOutcome → Type 0 =
       λ w. Kept p (HookInterrupt handle handler parameter) own (outcome (ofStatus (w .status)) (withHooks (w .hooks) p) own) in
@@ -62,8 +61,7 @@ module _ (p : Parts) (own : List ℕ) where
       (λ r f. untouched (inr (inl refl)) refl))
       (λ g f. untouched (inl refl) refl)
 
-  pub kept-unhook : (handle : ℕ) → Kept p (UnhookInterrupt handle) own (step p (UnhookInterrupt handle) own)
-  unfolding step
+  pub kept-unhook : (handle : ℕ) → Kept p (UnhookInterrupt handle) own (unhookOn p handle own)
   kept-unhook handle =
       let P : HookOutcome → Type 0 = λ w. Kept p (UnhookInterrupt handle) own (outcome (ofStatus (w .status)) (withHooks (w .hooks) p) own) in
       ifTest P (isHandle (p .header) handle)

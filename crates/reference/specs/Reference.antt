@@ -285,6 +285,24 @@ writeDataOf b w value own (At at order) =
     (withCellsOf (cellsAfter order w at value (b .cells)) b) own
 writeDataOf b w value own (NoPlace r) = referenceOutcome (ofStatus (statusOf r)) b own
 
+-- a hook goes last on its line; an unhook takes its own out
+abbrev pub hookOf : Reference → ℕ → ℕ → ℕ → List ℕ → ReferenceOutcome
+hookOf b handle handler parameter own =
+    let line = lineFor b handle in
+    let chain = b .chains line in
+    hookChecks (isHandleOf b handle) (isRouted (pinFor b handle) line) (not (isAmong handle chain))
+    (let longer = chain ++ hook handle handler parameter ∷ [] in
+    referenceOutcome (ofStatus successful) (withChainOf line longer b) own)
+    (λ s. referenceOutcome (ofStatus s) b own)
+
+abbrev pub unhookOf : Reference → ℕ → List ℕ → ReferenceOutcome
+unhookOf b handle own =
+    let line = lineFor b handle in
+    let chain = b .chains line in
+    unhookChecks (isHandleOf b handle) (isAmong handle chain)
+    (referenceOutcome (ofStatus successful) (withChainOf line (without handle chain) b) own)
+    (λ s. referenceOutcome (ofStatus s) b own)
+
 -- the board as a query sees it: of the cells how many there are, and no byte
 abbrev pub blankedOf : Reference → Reference
 blankedOf b = withCellsOf (replicate (length (b .cells)) 0) b
@@ -345,18 +363,8 @@ referenceStep b (GetResource handle) own =
     let g = resource (isHandleOf b handle) (sourceFor b handle) own in
     referenceOutcome (ofStatus (g .status)) b (g .out)
 referenceStep b (HookInterrupt handle handler parameter) own =
-    let line = lineFor b handle in
-    let chain = b .chains line in
-    hookChecks (isHandleOf b handle) (isRouted (pinFor b handle) line) (not (isAmong handle chain))
-    (let longer = chain ++ hook handle handler parameter ∷ [] in
-    referenceOutcome (ofStatus successful) (withChainOf line longer b) own)
-    (λ s. referenceOutcome (ofStatus s) b own)
-referenceStep b (UnhookInterrupt handle) own =
-    let line = lineFor b handle in
-    let chain = b .chains line in
-    unhookChecks (isHandleOf b handle) (isAmong handle chain)
-    (referenceOutcome (ofStatus successful) (withChainOf line (without handle chain) b) own)
-    (λ s. referenceOutcome (ofStatus s) b own)
+    hookOf b handle handler parameter own
+referenceStep b (UnhookInterrupt handle) own = unhookOf b handle own
 referenceStep b (SetCardUsed handle status callBack) own =
     setChecks (isHandleOf b handle) status
     (let mark : Mark = newMark status callBack in

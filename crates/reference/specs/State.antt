@@ -151,6 +151,17 @@ dataAccess header records windows offsets cells space width handle address (Writ
     (address .0) value in
     dataOutcome (ofStatus (w .status)) (w .cells)
 
+-- a hook and an unhook leave hooks
+abbrev pub hookOn : Parts → ℕ → ℕ → ℕ → List ℕ → Outcome
+hookOn p handle handler parameter own =
+    let w = hookInterrupt (p .header) (p .records) (p .hooks) handle handler parameter in
+    outcome (ofStatus (w .status)) (withHooks (w .hooks) p) own
+
+abbrev pub unhookOn : Parts → ℕ → List ℕ → Outcome
+unhookOn p handle own =
+    let w = unhookInterrupt (p .header) (p .hooks) handle in
+    outcome (ofStatus (w .status)) (withHooks (w .hooks) p) own
+
 -- the program's step: a call on the lent parts, with its own buffer
 unfoldable pub step : Parts → Call → List ℕ → Outcome
 step p Load own = let w = load p own in outcome (ofVerdict (w .verdict)) (w .parts) own
@@ -169,12 +180,8 @@ step p (Data space width handle address access) own =
 step p (GetResource handle) own =
     let g = getResource (p .header) (p .records) (p .registers) (p .windows) handle own in
     outcome (ofStatus (g .status)) p (g .out)
-step p (HookInterrupt handle handler parameter) own =
-    let w = hookInterrupt (p .header) (p .records) (p .hooks) handle handler parameter in
-    outcome (ofStatus (w .status)) (withHooks (w .hooks) p) own
-step p (UnhookInterrupt handle) own =
-    let w = unhookInterrupt (p .header) (p .hooks) handle in
-    outcome (ofStatus (w .status)) (withHooks (w .hooks) p) own
+step p (HookInterrupt handle handler parameter) own = hookOn p handle handler parameter own
+step p (UnhookInterrupt handle) own = unhookOn p handle own
 step p (SetCardUsed handle status callBack) own =
     let w = setCardUsed (p .header) (p .used) handle status callBack in
     outcome (ofStatus (w .status)) (withUsed (w .used) p) own
