@@ -3,3 +3,4 @@ pub mod Fronts
 pub mod Runs
 pub mod Loop
 pub mod Scripts
+pub mod Demand3
