@@ -24,13 +24,15 @@ fastRead value fault = record { value = value; fault = fault }
 abbrev pub written : ℤ → List ℕ → DataWritten
 written status cells = record { status = record { 0 = status }; cells = cells }
 
--- a board of one function with memory windows of 16 cells each: base register 0 in order 1 with all
--- widths, 1 contested, 2 for bytes alone
+-- a board of one function with memory windows of 16 cells each: base register 0 in order 1 and 1 in
+-- order 2, with all widths, 2 contested, 3 for bytes alone
 abbrev pub header : List ℕ
 header = 1 ∷ 0 ∷ 0 ∷ 0 ∷ []
 
 abbrev pub records : List ℕ
-records = replicate 512 0 ++ (4 ∷ 1 ∷ 7 ∷ 0 ∷ 4 ∷ 0 ∷ 7 ∷ 0 ∷ 4 ∷ 0 ∷ 1 ∷ 0 ∷ replicate 20 0)
+records =
+    replicate 512 0
+    ++ (4 ∷ 1 ∷ 7 ∷ 0 ∷ 4 ∷ 2 ∷ 7 ∷ 0 ∷ 4 ∷ 0 ∷ 7 ∷ 0 ∷ 4 ∷ 0 ∷ 1 ∷ 0 ∷ replicate 16 0)
 
 abbrev pub window : ℕ → ℕ → Bool → Window
 window start base contested =
@@ -46,14 +48,25 @@ window start base contested =
 abbrev pub windows : List ℕ
 windows =
     map pack
-    (window 0x80000000 0 false ∷ window 0x90000000 1 true ∷ window 0xA0000000 2 false ∷ [])
+    (window 0x80000000 0 false
+    ∷ window 0x88000000 1 false
+    ∷ window 0x90000000 2 true
+    ∷ window 0xA0000000 3 false
+    ∷ [])
 
 abbrev pub offsets : List ℕ
-offsets = 0 ∷ 16 ∷ 32 ∷ replicate 94 48
+offsets = 0 ∷ 16 ∷ 32 ∷ 48 ∷ replicate 93 64
 
--- so many cells after those of P13
+-- the first cells of the first window and of the second, and so many more
+abbrev pub cellsOf : List ℕ → List ℕ → ℕ → List ℕ
+cellsOf first second more = first ++ (replicate 12 0 ++ (second ++ replicate more 0))
+
+-- those of P13 in both
+abbrev pub p13 : List ℕ
+p13 = 0x11 ∷ 0x22 ∷ 0x33 ∷ 0x44 ∷ []
+
 abbrev pub cells : ℕ → List ℕ
-cells more = 0x11 ∷ 0x22 ∷ 0x33 ∷ 0x44 ∷ replicate more 0
+cells more = cellsOf p13 p13 more
 
 -- an access: its width, handle and address, and the cells lent
 pub record Access : Type 0 where
@@ -81,9 +94,12 @@ write a =
     writeData (a .width) header records windows offsets (cells (a .lent)) 0 (a .handle) (a .address)
     0x89ABCDEF
 
--- the first byte, word and longword of the first window
+-- the first byte, word and longword of the first window, and of the second
 abbrev pub accepted : List Access
 accepted = map (λ w. access w 1 0x80000000 44) (1 ∷ 2 ∷ 4 ∷ [])
+
+abbrev pub acceptedSecond : List Access
+acceptedSecond = map (λ w. access w 1 0x88000000 44) (1 ∷ 2 ∷ 4 ∷ [])
 
 -- refused for the handle, the cells, the alignment, no window, a contested one, the width
 abbrev pub refused : List Access
@@ -118,9 +134,19 @@ pub record DataAccessRows : Type 0 where
   pub fastAccepted : map fast accepted
       ≡ fastRead 0x44 false ∷ fastRead 0x3344 false ∷ fastRead 0x11223344 false ∷ []
   pub writeAccepted : map write accepted
-      ≡ written (pos 0) (0x11 ∷ 0x22 ∷ 0x33 ∷ 0xEF ∷ replicate 44 0)
-      ∷ written (pos 0) (0x11 ∷ 0x22 ∷ 0xCD ∷ 0xEF ∷ replicate 44 0)
-      ∷ written (pos 0) (0x89 ∷ 0xAB ∷ 0xCD ∷ 0xEF ∷ replicate 44 0)
+      ≡ written (pos 0) (cellsOf (0x11 ∷ 0x22 ∷ 0x33 ∷ 0xEF ∷ []) p13 44)
+      ∷ written (pos 0) (cellsOf (0x11 ∷ 0x22 ∷ 0xCD ∷ 0xEF ∷ []) p13 44)
+      ∷ written (pos 0) (cellsOf (0x89 ∷ 0xAB ∷ 0xCD ∷ 0xEF ∷ []) p13 44)
+      ∷ []
+  -- in order 2 (P13)
+  pub readReversed : map plain acceptedSecond
+      ≡ read (pos 0) 0x11 ∷ read (pos 0) 0x2211 ∷ read (pos 0) 0x44332211 ∷ []
+  pub fastReversed : map fast acceptedSecond
+      ≡ fastRead 0x11 false ∷ fastRead 0x2211 false ∷ fastRead 0x44332211 false ∷ []
+  pub writeReversed : map write acceptedSecond
+      ≡ written (pos 0) (cellsOf p13 (0xEF ∷ 0x22 ∷ 0x33 ∷ 0x44 ∷ []) 44)
+      ∷ written (pos 0) (cellsOf p13 (0xEF ∷ 0xCD ∷ 0x33 ∷ 0x44 ∷ []) 44)
+      ∷ written (pos 0) (cellsOf p13 (0xEF ∷ 0xCD ∷ 0xAB ∷ 0x89 ∷ []) 44)
       ∷ []
   -- a refused read returns 0
   pub readRefused : map plain refused
@@ -142,12 +168,12 @@ pub record DataAccessRows : Type 0 where
       ∷ []
   -- a refused write changes nothing
   pub writeRefused : map write refused
-      ≡ written (negℤ (pos 9)) (0x11 ∷ 0x22 ∷ 0x33 ∷ 0x44 ∷ replicate 44 0)
-      ∷ written (negℤ (pos 7)) (0x11 ∷ 0x22 ∷ 0x33 ∷ 0x44 ∷ replicate 43 0)
-      ∷ written (negℤ (pos 8)) (0x11 ∷ 0x22 ∷ 0x33 ∷ 0x44 ∷ replicate 44 0)
-      ∷ written (negℤ (pos 8)) (0x11 ∷ 0x22 ∷ 0x33 ∷ 0x44 ∷ replicate 44 0)
-      ∷ written (negℤ (pos 8)) (0x11 ∷ 0x22 ∷ 0x33 ∷ 0x44 ∷ replicate 44 0)
-      ∷ written (negℤ (pos 2)) (0x11 ∷ 0x22 ∷ 0x33 ∷ 0x44 ∷ replicate 44 0)
+      ≡ written (negℤ (pos 9)) (cells 44)
+      ∷ written (negℤ (pos 7)) (cells 43)
+      ∷ written (negℤ (pos 8)) (cells 44)
+      ∷ written (negℤ (pos 8)) (cells 44)
+      ∷ written (negℤ (pos 8)) (cells 44)
+      ∷ written (negℤ (pos 2)) (cells 44)
       ∷ []
   -- C's widths are 1, 2 and 4
   pub cKnown : map (cPlain 1) (1 ∷ 2 ∷ 4 ∷ []) ≡ map plain accepted
@@ -161,7 +187,7 @@ pub record DataAccessRows : Type 0 where
   pub cFastOtherBad : map (cFast 2) (3 ∷ 0 ∷ 8 ∷ 1 ∷ [])
       ≡ replicate 3 (fastRead 0xFFFFFFFF true) ++ (fastRead 0xFF true ∷ [])
   pub cWriteOther : map (cWrite 1) (3 ∷ 0 ∷ 8 ∷ [])
-      ≡ replicate 3 (written (negℤ (pos 8)) (0x11 ∷ 0x22 ∷ 0x33 ∷ 0x44 ∷ replicate 44 0))
+      ≡ replicate 3 (written (negℤ (pos 8)) (cells 44))
   pub cWriteOtherBad : map (cWrite 2) (3 ∷ 0 ∷ 8 ∷ 1 ∷ [])
-      ≡ replicate 3 (written (negℤ (pos 8)) (0x11 ∷ 0x22 ∷ 0x33 ∷ 0x44 ∷ replicate 44 0))
-      ++ (written (negℤ (pos 9)) (0x11 ∷ 0x22 ∷ 0x33 ∷ 0x44 ∷ replicate 44 0) ∷ [])
+      ≡ replicate 3 (written (negℤ (pos 8)) (cells 44))
+      ++ (written (negℤ (pos 9)) (cells 44) ∷ [])

@@ -1,5 +1,5 @@
--- Rows with literal numbers of document 01, "Data and byte order" and "What the promises say": where
--- the cells stand in each byte order, and how they hold a value.
+-- Rows with literal numbers of document 01, "Data and byte order" and "What the promises say":
+-- where the cells stand in each byte order, and how they hold a value.
 use Prim.Native.Nat.{ℕ}
 use mathlib.Core.List.{List, [], _∷_, map}
 use mathlib.Core.Path.{_≡_}

@@ -1,7 +1,7 @@
 -- What the finding of a window means, without the proof, in the words of document 01, "Numbers
 -- handed back", Data: -9; -7 cells shorter than the board's total; -8 address not a multiple of the
--- width; -8 no open window of this function in that space holds it; -8 that window is contested; -2.
--- The window is the handle's own, and not any that holds the address ("Traps on this bus").
+-- width; -8 no open window of this function in that space holds it; -8 that window is contested;
+-- -2. The window is the handle's own, and not any that holds the address ("Traps on this bus").
 use Prim.Native.Nat.{ℕ, _-_, _%_, _<_, _≤_}
 use mathlib.Core.Bool.{Bool, true, false}
 use mathlib.Core.List.{List, _∷_, _++_}
