@@ -1,8 +1,10 @@
 -- The rows, worked out.
 use mathlib.Core.Path.{refl}
+use Rattle.numbers.specs.Tables.{tableFrom}
 use Rattle.card_used.specs.Rows.{CardUsedRows}
 
 pub card-used-rows : CardUsedRows
+unfolding tableFrom
 card-used-rows =
     record {
       setUsed = refl;
@@ -11,4 +13,5 @@ card-used-rows =
       badHandle = refl;
       getUsed = refl;
       getRefused = refl;
+      array = refl;
     }

@@ -4,9 +4,17 @@ use Prim.Native.Nat.{ℕ}
 use mathlib.Core.List.{List, [], _∷_, map}
 use mathlib.Core.Path.{_≡_}
 use lib.IntN.{ℤ, pos, negℤ}
+use lib.ListN.{replicate}
 use Rattle.board.specs.Statuses.{minus}
 use Rattle.card_used.specs.declared.used.CardUsed.{CardUsed}
-use Rattle.card_used.specs.Used.{MarkOutcome, markOutcome, getCardUsed, setCardUsed}
+use Rattle.card_used.specs.Used.{
+  markAt,
+  marksOf,
+  MarkOutcome,
+  markOutcome,
+  getCardUsed,
+  setCardUsed,
+}
 
 -- boards of one function and of two; marks 1 of handle 1, and 2 with call-back C0DEh of handle 2
 abbrev pub one : List ℕ
@@ -58,3 +66,5 @@ pub record CardUsedRows : Type 0 where
       ∷ gives (negℤ (pos 9)) 0 0
       ∷ []
   pub getRefused : getCardUsed one before 2 ≡ gives (negℤ (pos 9)) 0 0
+  -- the marks of 16 functions one after the other: status, call-back
+  pub array : marksOf (markAt before) ≡ 1 ∷ 0 ∷ 2 ∷ 0xC0DE ∷ replicate 28 0

@@ -1,19 +1,20 @@
 -- Rows with literal numbers of document 01, "Numbers handed back" and "Chains and marks": which
 -- hooks and unhooks are refused, and the array and the chains that the others leave.
 use Prim.Native.Nat.{ℕ}
+use mathlib.Core.Bool.{true, false}
 use mathlib.Core.List.{List, [], _∷_, _++_, map}
 use mathlib.Core.Path.{_≡_}
 use lib.IntN.{pos}
 use lib.ListN.{replicate}
 use Rattle.board.specs.Statuses.{minus}
-use Rattle.interrupt_array.specs.Hooks.{hook, chainOf}
+use Rattle.interrupt_array.specs.Hooks.{Hook, hook, chainOf}
 use Rattle.interrupt_hook.specs.Chain.{
   HookOutcome,
   hookOutcome,
   hookInterrupt,
   unhookInterrupt,
 }
-use Rattle.interrupt_hook.specs.Meaning.{hooking, unhooking, arrayAfter}
+use Rattle.interrupt_hook.specs.Meaning.{hooking, unhooking, arrayAfter, isAmong, without}
 
 -- a loaded record with a line at 3Ch and a pin at 3Dh
 abbrev pub loaded : ℕ → ℕ → List ℕ
@@ -52,6 +53,10 @@ abbrev pub has3214 : List ℕ
 has3214 =
     3 ∷ 0x3000 ∷ 9 ∷ 2 ∷ 0x2000 ∷ 7 ∷ 1 ∷ 0x1000 ∷ 8 ∷ 4 ∷ 0x4000 ∷ 6
     ∷ replicate 36 0
+
+-- a chain of hooks of handles 2, 1 and 4
+abbrev pub chain214 : List Hook
+chain214 = hook 2 0x2000 7 ∷ hook 1 0x1000 8 ∷ hook 4 0x4000 6 ∷ []
 
 -- 0 and an array, or -n and an array
 abbrev pub leaves : List ℕ → HookOutcome
@@ -103,6 +108,14 @@ pub record InterruptHookRows : Type 0 where
   -- the others keep their order; one that is hooked again goes last
   pub unhookBetween : unhookInterrupt four has3214 1 ≡ leaves has324
   pub again : arrayAfter four records has21 (unhooking 2 ∷ hooking (hook 2 0x2000 7) ∷ []) ≡ has12
+  -- the same of a chain: whether it has a handle, and what is left without it
+  pub among : map (λ handle. isAmong handle chain214) (0 ∷ 1 ∷ 2 ∷ 3 ∷ 4 ∷ [])
+      ≡ false ∷ true ∷ true ∷ false ∷ true ∷ []
+  pub left : map (λ handle. without handle chain214) (1 ∷ 2 ∷ 3 ∷ [])
+      ≡ (hook 2 0x2000 7 ∷ hook 4 0x4000 6 ∷ [])
+      ∷ (hook 1 0x1000 8 ∷ hook 4 0x4000 6 ∷ [])
+      ∷ (hook 2 0x2000 7 ∷ hook 1 0x1000 8 ∷ hook 4 0x4000 6 ∷ [])
+      ∷ []
   -- an array that a caller filled: -6 for want of room, and not with one entry free
   pub full : hookInterrupt one (loaded 5 1) (replicate 48 9) 1 0x1000 8 ≡ refuses 6 (replicate 48 9)
   pub oneFree : hookInterrupt one (loaded 5 1) (replicate 45 9 ++ (0 ∷ 0 ∷ 0 ∷ [])) 1 0x1000 8
