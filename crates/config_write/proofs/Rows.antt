@@ -15,6 +15,7 @@ config-write-rows =
       word = refl;
       longword = refl;
       readOnly = refl;
+      badHandle = refl;
       badHandleFirst = refl;
       notMultiple = refl;
       commandBytes = refl;

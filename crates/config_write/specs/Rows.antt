@@ -21,10 +21,10 @@ abbrev pub throughMasks : ℕ → List ℕ
 throughMasks register =
     map (λ mask. written register mask 0x5A 0xC3) (0x00 ∷ 0xFF ∷ 0x0F ∷ 0xF0 ∷ [])
 
--- a board of two functions, of which handle 2 has four bytes from 40h on with the same masks, each
--- byte its own; and a kept list of one number
-abbrev pub header : List ℕ
-header = 2 ∷ 0 ∷ 0 ∷ 0 ∷ []
+-- boards of so many functions, of which handle 2 has four bytes from 40h on with the same masks,
+-- each byte its own; and a kept list of one number
+abbrev pub functions : ℕ → List ℕ
+functions count = count ∷ 0 ∷ 0 ∷ 0 ∷ []
 
 abbrev pub records : List ℕ
 records = replicate 864 0 ++ (0x00 ∷ 0xFF ∷ 0x0F ∷ 0xF0 ∷ [])
@@ -35,10 +35,11 @@ registers bytes = replicate 320 0 ++ bytes
 abbrev pub before : List ℕ
 before = 0x11 ∷ 0x22 ∷ 0x33 ∷ 0x44 ∷ []
 
--- a write, the number and the four bytes that it leaves: 0 and some, or -n and the old ones
+-- a write on a board of two; the number and the four bytes that it leaves: 0 and some, or -n and
+-- the old ones
 abbrev pub write : ℕ → ℕ → ℕ → ℕ → ConfigWritten
 write w handle register value =
-    writeConfig w header records (registers before) (7 ∷ []) handle register value
+    writeConfig w (functions 2) records (registers before) (7 ∷ []) handle register value
 
 abbrev pub leaves : List ℕ → ConfigWritten
 leaves bytes = configWritten (record { 0 = pos 0 }) (registers bytes) (7 ∷ [])
@@ -61,6 +62,8 @@ pub record ConfigWriteRows : Type 0 where
   -- a write to read-only bits succeeds
   pub readOnly : write 1 2 0x40 0xFF ≡ leaves (0x11 ∷ 0x22 ∷ 0x33 ∷ 0x44 ∷ [])
   -- the order of checks: -9, then -5; nothing is written
+  pub badHandle : writeConfig 4 (functions 1) records (registers before) (7 ∷ []) 2 0x40 0xA1B2C3D4
+      ≡ refuses 9
   pub badHandleFirst : map (λ handle. write 2 handle 0x41 0xFFFF) (0 ∷ 2 ∷ 3 ∷ [])
       ≡ refuses 9 ∷ refuses 5 ∷ refuses 9 ∷ []
   pub notMultiple : map (λ register. write 4 2 register 0xFFFFFFFF) (0x41 ∷ 0x42 ∷ 0x43 ∷ [])

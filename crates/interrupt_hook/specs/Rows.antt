@@ -76,8 +76,7 @@ pub record InterruptHookRows : Type 0 where
   -- -6 already hooked
   pub twice : hookInterrupt one (loaded 5 1) has1 1 0x5000 4 ≡ refuses 6 has1
   -- the order of checks: -9 before -8 (pin 0) and before -6, -8 before -6 (pin 0, line 16)
-  pub badHandle : map (λ handle. hookInterrupt one (loaded 5 1) none handle 0x1000 8)
-      (0 ∷ 1 ∷ 2 ∷ [])
+  pub badHandle : map (λ handle. hookInterrupt one records none handle 0x1000 8) (0 ∷ 1 ∷ 2 ∷ [])
       ≡ refuses 9 none ∷ leaves has1 ∷ refuses 9 none ∷ []
   pub badHandleFirst : map (λ pin. hookInterrupt one (loaded 5 1 ++ loaded 5 pin) has2 2 0x5000 4)
       (0 ∷ 1 ∷ [])
@@ -92,7 +91,7 @@ pub record InterruptHookRows : Type 0 where
       ∷ (hook 2 0x2000 7 ∷ hook 1 0x1000 8 ∷ [])
       ∷ (hook 4 0x4000 6 ∷ [])
       ∷ []
-  -- every handle at its place: hooked 2, 4, 1, 3
+  -- all four, hooked in the order 2, 4, 1, 3
   pub hooked : arrayAfter four records none
       (hooking (hook 2 0x2000 7)
       ∷ hooking (hook 4 0x4000 6)

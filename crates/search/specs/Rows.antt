@@ -18,7 +18,7 @@ use Rattle.search.specs.Search.{
   searchNumber,
 }
 
--- the first registers of a function of vendor 1234h, device 5678h, class 112233h (revision 44h), and
+-- the first registers of a function of vendor 1234h, device 5678h, revision 44h, class 112233h; and
 -- of one of vendor 1235h, device 5679h, class 112333h
 abbrev pub card : List ℕ
 card = 0x34 ∷ 0x12 ∷ 0x78 ∷ 0x56 ∷ 0 ∷ 0 ∷ 0 ∷ 0 ∷ 0x44 ∷ 0x33 ∷ 0x22 ∷ 0x11 ∷ 0x55 ∷ []
