@@ -6,4 +6,11 @@ use Rattle.cell_layout.specs.Rows.{CellLayoutRows}
 
 pub cell-layout-rows : CellLayoutRows
 unfolding cellsBefore tableFrom
-cell-layout-rows = record { lengths = refl; totals = refl; beginnings = refl; kept = refl; zeros = refl }
+cell-layout-rows =
+    record {
+      lengths = refl;
+      totals = refl;
+      beginnings = refl;
+      kept = refl;
+      zeros = refl;
+    }

@@ -38,6 +38,15 @@ oneRecord high low = 0 ∷ 0 ∷ 0x02 ∷ 0x2C ∷ 0 ∷ 1 ∷ 0 ∷ 1 ∷ 0 ∷
 abbrev pub twoRecords : ℕ → ℕ → List ℕ
 twoRecords high low = 0 ∷ 0 ∷ 0x04 ∷ 0x4C ∷ 0 ∷ 2 ∷ 0 ∷ 1 ∷ 0 ∷ 0 ∷ high ∷ low ∷ []
 
+-- 192 registers and 192 masks FFh, which no rule names; the sum is 17E80h
+abbrev pub heavy : List ℕ
+heavy =
+    replicate 64 0 ++ (replicate 192 0xFF
+    ++ (replicate 64 0 ++ (replicate 192 0xFF ++ replicate 32 0)))
+
+abbrev pub heavyTrailer : ℕ → List ℕ
+heavyTrailer byte = 0 ∷ 0 ∷ 0x02 ∷ 0x2C ∷ 0 ∷ 1 ∷ 0 ∷ 1 ∷ 0 ∷ byte ∷ 0x7E ∷ 0x80 ∷ []
+
 pub record ImageCheckRows : Type 0 where
   -- 1 longer than 65,536 bytes, whatever else the image says; up to there the table decides
   pub longer : (image : List ℕ) (room : ℕ) → 65536 < length image
@@ -50,6 +59,9 @@ pub record ImageCheckRows : Type 0 where
       ∷ checked (ports ++ oneRecord 0x03 0xFC) 4
       ∷ checked (ports ++ oneRecord 0x03 0xFD) 3 ∷ []
       ≡ verdict 0 0 ∷ verdict 0 0 ∷ verdict 5 0 ∷ verdict 8 0 ∷ []
+  -- the sum has four bytes
+  pub heavySum : checked (heavy ++ heavyTrailer 1) 0 ∷ checked (heavy ++ heavyTrailer 0) 0 ∷ []
+      ≡ verdict 0 0 ∷ verdict 5 0 ∷ []
   -- 6, the first record that breaks a rule and the second; 7, 65,540 cells
   pub bad : checked (noWidth ++ oneRecord 0x03 0xFC) 4
       ∷ checked (ports ++ (noWidth ++ twoRecords 0x07 0xF9)) 4

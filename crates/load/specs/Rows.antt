@@ -1,5 +1,5 @@
--- Rows with literal numbers of document 01, section "The modelled board" and "Load refusals": what a
--- load leaves of a board on which nothing was zero, and that a refused one leaves all.
+-- Rows with literal numbers of document 01, sections "The modelled board" and "Load refusals": what
+-- a load leaves of a board on which nothing was zero, and that a refused one leaves all.
 use Prim.Native.Nat.{ℕ, _<_}
 use mathlib.Core.List.{List, [], _∷_, _++_, map}
 use mathlib.Core.Path.{_≡_}
@@ -32,8 +32,9 @@ pub record LoadRows : Type 0 where
       ≡ (1 ∷ 0 ∷ 0 ∷ 0 ∷ []) ∷ (ports ++ replicate 8160 0) ∷ (0 ∷ 1 ∷ [])
       ∷ (0 ∷ replicate 96 4) ∷ replicate 48 0 ∷ replicate 32 0
       ∷ (0 ∷ 0 ∷ 0 ∷ 0 ∷ 7 ∷ 7 ∷ []) ∷ []
-  -- with as many cells as the windows need, and with one less
-  pub verdicts : map (λ n. load (board n) image .verdict) (3 ∷ 4 ∷ []) ≡ verdict 8 0 ∷ verdict 0 0 ∷ []
+  -- 8 with one cell less than the windows need, 0 with as many
+  pub verdicts : map (λ n. load (board n) image .verdict) (3 ∷ 4 ∷ [])
+      ≡ verdict 8 0 ∷ verdict 0 0 ∷ []
   -- 1 for every image that is longer than 65,536 bytes
   pub tooLong : (p : Parts) (image : List ℕ) → 65536 < length image
       → load p image ≡ loadOutcome (verdict 1 0) p
