@@ -10,7 +10,6 @@ unfolding little big entryOk recordOk put b1First fullest
 image-record-rows =
     record {
       b1 = refl;
-      freeBits = refl;
       vendors = refl;
       headerTypes = refl;
       pins = refl;
@@ -25,4 +24,5 @@ image-record-rows =
       noBase = refl;
       offsets = refl;
       dmaOffsets = refl;
+      freeBits = refl;
     }

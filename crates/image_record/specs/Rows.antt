@@ -68,9 +68,8 @@ fullest =
     (replicate 544 0xFF)))))))))))))
 
 pub record ImageRecordRows : Type 0 where
-  -- no rule is broken, also where every free bit is 1
+  -- no rule is broken
   pub b1 : recordOk b1First ≡ true
-  pub freeBits : recordOk fullest ≡ true
   -- vendor, least byte first, is not FFFFh
   pub vendors :
       map (okWith 0x00)
@@ -133,3 +132,5 @@ pub record ImageRecordRows : Type 0 where
   -- no rule is on the dmaoffset
   pub dmaOffsets :
       map (okWith 540) (four 0 0 0 1 ∷ four 0 0 0 2 ∷ four 1 0 0 0 ∷ []) ≡ replicate 3 true
+  -- no other bit is ruled on
+  pub freeBits : recordOk fullest ≡ true
