@@ -17,12 +17,10 @@ image-record-rows =
       masksBeside = refl;
       romValues = refl;
       bases = refl;
-      baseRegisters = refl;
-      baseMasks = refl;
-      baseOrders = refl;
+      brokenBases = refl;
       noWindow = refl;
       noBase = refl;
       offsets = refl;
-      dmaOffsets = refl;
+      dmaOffset = refl;
       freeBits = refl;
     }

