@@ -19,7 +19,6 @@ image-record-rows =
       bases = refl;
       brokenBases = refl;
       noWindow = refl;
-      noBase = refl;
       offsets = refl;
       dmaOffset = refl;
       freeBits = refl;

@@ -2,7 +2,7 @@
 -- boundary, in B1's first record with bytes changed. In a row all other clauses hold.
 use Prim.Native.Nat.{ℕ, _+_, _*_}
 use mathlib.Core.Bool.{Bool, true, false}
-use mathlib.Core.List.{List, [], _∷_, _++_, map}
+use mathlib.Core.List.{List, [], _∷_, _++_, foldr, map}
 use mathlib.Core.Path.{_≡_}
 use lib.ListN.{replicate, set}
 use Rattle.image_record.specs.Record.{recordOk}
@@ -73,28 +73,29 @@ pub record ImageRecordRows : Type 0 where
   -- vendor, least byte first, is not FFFFh
   pub vendors :
       map (okWith 0x00)
-      ((0xFF ∷ 0xFF ∷ []) ∷ (0xFE ∷ 0xFF ∷ []) ∷ (0xFF ∷ 0xFE ∷ [])
-      ∷ (0xFF ∷ 0x00 ∷ []) ∷ (0x00 ∷ 0xFF ∷ []) ∷ (0x00 ∷ 0x00 ∷ []) ∷ [])
-      ≡ false ∷ true ∷ true ∷ true ∷ true ∷ true ∷ []
+      ((0xFF ∷ 0xFF ∷ []) ∷ (0xFE ∷ 0xFF ∷ []) ∷ (0xFF ∷ 0x00 ∷ []) ∷ (0x00 ∷ 0xFF ∷ []) ∷ [])
+      ≡ false ∷ true ∷ true ∷ true ∷ []
   -- header type (0Eh) has bits 6..0 zero
   pub headerTypes :
       map (okWithByte 0x0E)
-      (0x00 ∷ 0x01 ∷ 0x02 ∷ 0x04 ∷ 0x08 ∷ 0x10 ∷ 0x20 ∷ 0x40 ∷ 0x80 ∷ 0xC0 ∷ [])
-      ≡ true ∷ false ∷ false ∷ false ∷ false ∷ false ∷ false ∷ false ∷ true ∷ false ∷ []
+      (0x01 ∷ 0x02 ∷ 0x04 ∷ 0x08 ∷ 0x10 ∷ 0x20 ∷ 0x40 ∷ 0x80 ∷ 0xC0 ∷ [])
+      ≡ false ∷ false ∷ false ∷ false ∷ false ∷ false ∷ false ∷ true ∷ false ∷ []
   -- pin (3Dh) is 0 to 4
   pub pins :
-      map (okWithByte 0x3D) (0 ∷ 1 ∷ 4 ∷ 5 ∷ 8 ∷ 0x80 ∷ [])
-      ≡ true ∷ true ∷ true ∷ false ∷ false ∷ false ∷ []
-  -- masks are zero at 00h-03h, 08h-0Bh, 0Eh, 2Ch-33h, 3Dh; those beside them are free
+      map (okWithByte 0x3D) (0 ∷ 4 ∷ 5 ∷ 8 ∷ 0x80 ∷ [])
+      ≡ true ∷ true ∷ false ∷ false ∷ false ∷ []
+  -- masks are zero at 00h-03h, 08h-0Bh, 0Eh, 2Ch-33h, 3Dh
   pub readOnlyMasks :
       map (λ register. okWithByte (256 + register) 0x01)
       (0x00 ∷ 0x01 ∷ 0x02 ∷ 0x03 ∷ 0x08 ∷ 0x09 ∷ 0x0A ∷ 0x0B ∷ 0x0E
       ∷ 0x2C ∷ 0x2D ∷ 0x2E ∷ 0x2F ∷ 0x30 ∷ 0x31 ∷ 0x32 ∷ 0x33 ∷ 0x3D ∷ [])
       ≡ replicate 18 false
+  -- but not beside them, all at once
   pub masksBeside :
-      map (λ register. okWithByte (256 + register) 0x01)
-      (0x04 ∷ 0x07 ∷ 0x0C ∷ 0x0D ∷ 0x0F ∷ 0x2B ∷ 0x34 ∷ 0x3C ∷ 0x3E ∷ [])
-      ≡ replicate 9 true
+      recordOk
+      (foldr (λ register. put (256 + register) (0x01 ∷ [])) b1First
+      (0x04 ∷ 0x07 ∷ 0x0C ∷ 0x0D ∷ 0x0F ∷ 0x2B ∷ 0x34 ∷ 0x3C ∷ 0x3E ∷ []))
+      ≡ true
   -- reset values at 30h-33h are zero
   pub romValues :
       map (λ register. okWithByte register 0x01) (0x2F ∷ 0x30 ∷ 0x31 ∷ 0x32 ∷ 0x33 ∷ 0x34 ∷ [])
@@ -107,21 +108,17 @@ pub record ImageRecordRows : Type 0 where
   pub brokenBases :
       okWithBase (four 0x01 0x01 0x00 0x00) (four 0xFC 0xFF 0xFF 0xFF) (four 2 3 1 0)
       ≡ replicate 6 false
-  -- k = 0, as B1 has it from base 1 on: register, mask and the rest of the entry are zero, every
-  -- byte of base 5; the bytes before base 0 and after base 5 are of no base register
+  -- k = 0: the rest of the entry, the register and its mask are zero, here of base 5
   pub noWindow :
-      map (λ at. okWithByte at 0x01)
-      (0x24 ∷ 0x25 ∷ 0x26 ∷ 0x27 ∷ 0x124 ∷ 0x125 ∷ 0x126 ∷ 0x127 ∷ 533 ∷ 534 ∷ 535 ∷ [])
-      ≡ replicate 11 false
-  pub noBase :
-      map (λ at. okWithByte at 0x01) (0x0F ∷ 0x28 ∷ 0x128 ∷ []) ≡ true ∷ true ∷ true ∷ []
+      map (λ at. okWithByte at 0x01) (533 ∷ 534 ∷ 535 ∷ 0x24 ∷ 0x27 ∷ 0x124 ∷ 0x127 ∷ [])
+      ≡ replicate 7 false
   -- the offset, highest byte first, is a multiple of 4
   pub offsets :
       map (okWith 536)
-      (four 0 0 0 1 ∷ four 0 0 0 2 ∷ four 0 0 0 3 ∷ four 0 0 0 4 ∷ four 0 0 0 6
-      ∷ four 0x80 0 0 0 ∷ four 0x01 0 0 0 ∷ four 0x80 0 0 2 ∷ [])
-      ≡ false ∷ false ∷ false ∷ true ∷ false ∷ true ∷ true ∷ false ∷ []
+      (four 0 0 0 1 ∷ four 0 0 0 2 ∷ four 0 0 0 3 ∷ four 0 0 0 4
+      ∷ four 0x01 0 0 0 ∷ four 0x80 0 0 0 ∷ four 0x80 0 0 2 ∷ [])
+      ≡ false ∷ false ∷ false ∷ true ∷ true ∷ true ∷ false ∷ []
   -- no rule is on the dmaoffset
   pub dmaOffset : okWith 540 (four 0x80 0 0 1) ≡ true
-  -- no other bit is ruled on
+  -- and none on any bit beyond these, all at once
   pub freeBits : recordOk fullest ≡ true
