@@ -1,6 +1,7 @@
 //! What a data call or a conversion met beside the number of its answer.
 
 use crate::access::DataAccess;
+use crate::boards::LAST_OFFSET;
 use crate::calls::{Answer, Call};
 use crate::data_arguments::offset;
 use crate::data_case::{has_entry, DataCase};
@@ -67,6 +68,9 @@ const WIDTHS_ABOVE: &str = "an accepted access, its widths with bits above bit 2
 
 const TO_CPU: [&str; 2] = ["a CPU address below 2^32", "a CPU address wrapped past 2^32"];
 const TO_BUS: [&str; 2] = ["a bus address from above the offset", "a bus address wrapped past 0"];
+/// To CPU, to bus.
+const GREATEST_OFFSET: [&str; 2] =
+    ["a CPU address by offset FFFFFFFCh", "a bus address by offset FFFFFFFCh"];
 
 /// All that a set of runs must have met of these calls.
 pub fn all() -> impl Iterator<Item = &'static str> {
@@ -92,7 +96,8 @@ pub fn all() -> impl Iterator<Item = &'static str> {
         NOT_OFFERED_PAST,
         WIDTHS_ABOVE,
     ];
-    by_order.chain(in_threes).chain(single).chain(TO_CPU).chain(TO_BUS)
+    let conversions = [TO_CPU, TO_BUS, GREATEST_OFFSET].into_iter().flatten();
+    by_order.chain(in_threes).chain(single).chain(conversions)
 }
 
 /// What a call met that left the parts as they were, and these cells.
@@ -115,12 +120,14 @@ pub fn met(call: &Call, answer: &Answer, parts: &Parts, cells: &[u8]) -> Met {
         Call::BusToCpu { handle, address } if answer.number == 0 => {
             let offset = offset(parts, *handle);
             let wraps = address.checked_add(offset).is_none();
-            vec![(TO_CPU[usize::from(wraps)], offset != 0)]
+            let greatest = (GREATEST_OFFSET[0], offset == LAST_OFFSET);
+            vec![(TO_CPU[usize::from(wraps)], offset != 0), greatest]
         }
         Call::CpuToBus { handle, address } if answer.number == 0 => {
             let offset = offset(parts, *handle);
             let wraps = address.checked_sub(offset).is_none();
-            vec![(TO_BUS[usize::from(wraps)], offset != 0)]
+            let greatest = (GREATEST_OFFSET[1], offset == LAST_OFFSET);
+            vec![(TO_BUS[usize::from(wraps)], offset != 0), greatest]
         }
         _ => Met::new(),
     }
@@ -309,5 +316,8 @@ mod tests {
         assert_eq!(met_by(&mut b1, to_cpu(0x8000_0000)), [TO_CPU[1]]);
         assert_eq!(met_by(&mut b1, to_bus(0x8000_0000)), [TO_BUS[0]]);
         assert_eq!(met_by(&mut b1, to_bus(0x7FFF_FFFF)), [TO_BUS[1]]);
+        b1.parts.records[536..540].copy_from_slice(&LAST_OFFSET.to_be_bytes());
+        assert_eq!(met_by(&mut b1, to_cpu(3)), [TO_CPU[0], GREATEST_OFFSET[0]]);
+        assert_eq!(met_by(&mut b1, to_bus(0xFFFF_FFFC)), [TO_BUS[0], GREATEST_OFFSET[1]]);
     }
 }
