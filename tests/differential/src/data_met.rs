@@ -65,6 +65,7 @@ const CELLS_PAST: &str = "cells past the buffer on an altered board";
 const CELLS_PARTLY_PAST: &str = "cells partly past the buffer on an altered board";
 const NOT_OFFERED_PAST: &str = "an access refused as not offered, its cells past the buffer";
 const WIDTHS_ABOVE: &str = "an accepted access, its widths with bits above bit 2";
+const NO_EXPONENT: &str = "an accepted access, its record's k outside 2..16";
 
 const TO_CPU: [&str; 2] = ["a CPU address below 2^32", "a CPU address wrapped past 2^32"];
 const TO_BUS: [&str; 2] = ["a bus address from above the offset", "a bus address wrapped past 0"];
@@ -95,6 +96,7 @@ pub fn all() -> impl Iterator<Item = &'static str> {
         CELLS_PARTLY_PAST,
         NOT_OFFERED_PAST,
         WIDTHS_ABOVE,
+        NO_EXPONENT,
     ];
     let conversions = [TO_CPU, TO_BUS, GREATEST_OFFSET].into_iter().flatten();
     by_order.chain(in_threes).chain(single).chain(conversions)
@@ -150,7 +152,7 @@ fn data(case: &DataCase, names: &[[&'static str; 3]; 5]) -> Met {
 }
 
 fn accepted(case: &DataCase, names: &[[&'static str; 3]; 5]) -> Met {
-    let Some([_, order, widths, _]) = case.entry() else {
+    let Some([k, order, widths, _]) = case.entry() else {
         return Met::new();
     };
     let order = [0, 1, 2, 15].iter().position(|&known| known == order).unwrap_or(4);
@@ -160,6 +162,7 @@ fn accepted(case: &DataCase, names: &[[&'static str; 3]; 5]) -> Met {
         (IO_NUMBER, case.access.io > 1),
         (LAST_ADDRESS, case.access.address == u32::MAX),
         (WIDTHS_ABOVE, widths > 7),
+        (NO_EXPONENT, !(2..=16).contains(&k)),
     ]
 }
 
@@ -296,6 +299,9 @@ mod tests {
         b1.parts.cell_offsets[0] = 8;
         b1.parts.windows[1] = b1.parts.windows[0];
         assert_eq!(read(&mut b1, FIRST), [WIDTHS_ABOVE, FIRST_TAKEN]);
+        b1.parts.records[ENTRY_ORDER - 1] = 0;
+        assert_eq!(read(&mut b1, FIRST), [WIDTHS_ABOVE, NO_EXPONENT, FIRST_TAKEN]);
+        b1.parts.records[ENTRY_ORDER - 1] = 10;
         b1.parts.windows[0] |= 6 << 18;
         assert_eq!(read(&mut b1, FIRST), [WIDTHS_ABOVE, PASSED_OVER]);
         b1.parts.windows[1] |= 7 << 18;

@@ -17,9 +17,12 @@ const NEVER_ACCEPTED: [&str; 6] = [
     "set_interrupt",
 ];
 
+/// Names, each with whether the call was refused.
+type Reached = BTreeSet<(&'static str, bool)>;
+
 thread_local! {
     static LAST: Cell<&'static str> = const { Cell::new("") };
-    static REACHED: RefCell<BTreeSet<(&'static str, bool)>> = const { RefCell::new(BTreeSet::new()) };
+    static REACHED: RefCell<Reached> = const { RefCell::new(Reached::new()) };
 }
 
 /// Calls a function of the C layers and notes its name. The pointers that it is given are to

@@ -2,15 +2,15 @@
 //! data_met.rs.
 
 use crate::access::Access;
-use crate::boards::{FIRST_BASE, LAST_OFFSET, MASKS, OFFSET};
+use crate::boards::{ENTRIES, FIRST_BASE, LAST_OFFSET, MASKS, OFFSET};
 use crate::calls::{Answer, Call};
 use crate::parts::Parts;
 use exports::REGISTERS;
-use second::{KeptWindow, RECORD_LENGTH, TRAILER_LENGTH};
+use second::{KeptWindow, BASES, RECORD_LENGTH, TRAILER_LENGTH};
 use std::ops::Range;
 
 /// All that a set of runs must have met, by call.
-pub const ALL: [&str; 25] = [
+pub const ALL: [&str; 26] = [
     LAST_PLACE,
     GREAT_SUMS[0],
     GREAT_SUMS[1],
@@ -18,6 +18,7 @@ pub const ALL: [&str; 25] = [
     CONTESTED,
     TO_THE_END,
     NINETY_SIX,
+    NO_EXPONENT,
     DEVICES_PASSED,
     ANY_VENDOR,
     CLASSES_PASSED,
@@ -46,6 +47,7 @@ const GREATEST_OFFSET: &str = "a load with an offset of FFFFFFFCh";
 const CONTESTED: &str = "a contested window";
 const TO_THE_END: &str = "a window that ends at 2^32";
 const NINETY_SIX: &str = "window 95 of a list";
+const NO_EXPONENT: &str = "a listed window, its record's k outside 2..16";
 const DEVICES_PASSED: &str = "a device search that passes over matches";
 const ANY_VENDOR: &str = "vendor FFFFh that finds a function";
 const CLASSES_PASSED: &str = "a class search that passes over matches";
@@ -78,7 +80,7 @@ pub type Met = Vec<(&'static str, bool)>;
 
 /// What a call met that left these parts.
 pub fn met(call: &Call, answer: &Answer, before: &Parts, after: &Parts) -> Met {
-    let [first, start, length, _, _, contested] = answer.values;
+    let [first, start, length, handle, base, contested] = answer.values;
     match (call, answer.number) {
         (Call::Load { image, .. }, 5 | 6) => {
             let great = GREAT_SUMS[usize::from(answer.number == 6)];
@@ -92,6 +94,7 @@ pub fn met(call: &Call, answer: &Answer, before: &Parts, after: &Parts) -> Met {
             (CONTESTED, contested == 1),
             (TO_THE_END, start + length == 1 << 32),
             (NINETY_SIX, *n == 95),
+            (NO_EXPONENT, exponent(before, handle, base).is_some_and(|k| !(2..=16).contains(&k))),
         ],
         (Call::FindPciDevice { id, index }, 1..) => {
             let any_vendor = id & 0xFFFF == 0xFFFF;
@@ -113,6 +116,12 @@ pub fn met(call: &Call, answer: &Answer, before: &Parts, after: &Parts) -> Met {
         (Call::WriteConfig { .. }, _) => vec![(LIST_STAYS_REFUSED, is_altered(before))],
         _ => Met::new(),
     }
+}
+
+/// k of a handle's base register in the records, where there is one.
+fn exponent(parts: &Parts, handle: u64, base: u64) -> Option<u8> {
+    let record = parts.records.chunks(RECORD_LENGTH).nth((handle as usize).wrapping_sub(1))?;
+    ((base as usize) < BASES).then(|| record[ENTRIES + 4 * base as usize])
 }
 
 /// The sum of the records of an image whose distance is right.
@@ -251,6 +260,18 @@ mod tests {
         assert_eq!(met_by(&mut b1, write(1, 0x08, 0x1180_0000)), [LIST_STAYS]);
         assert_eq!(met_by(&mut b1, write(1, 0x04, 3)), [LIST_AFRESH]);
         assert!(met_by(&mut b1, write(1, 0x04, 3)).is_empty());
+    }
+
+    #[test]
+    fn listings() {
+        let mut b1 = fresh_b1();
+        let list = |n| Call::ListWindow { n };
+        assert!(met_by(&mut b1, list(2)).is_empty());
+        b1.parts.records[RECORD_LENGTH + ENTRIES + 4] = 0;
+        assert_eq!(met_by(&mut b1, list(2)), [NO_EXPONENT]);
+        assert!(met_by(&mut b1, list(1)).is_empty());
+        b1.parts.windows[1] |= 6 << 18 | 1;
+        assert_eq!(met_by(&mut b1, list(1)), [CONTESTED]);
     }
 
     /// P1, P3, P4 and a class whose ignored bytes are its own.
