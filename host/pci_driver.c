@@ -28,8 +28,8 @@ void pci_use_board(struct pci_board *new_board, uint8_t *new_cells, size_t new_l
     memset(kept, 0, sizeof kept);
 }
 
-/* The entry of a handle. Those that calls take are 1 to 16; of any other the entry is not
-   looked at. */
+/* The entry of a handle. Those that calls take are 1 to 16; of any other, which a caller may have
+   put on an altered board's chain, the entry is not looked at. */
 static struct kept *kept_of(ULONG handle) {
     return &kept[(handle - 1) % 16];
 }
@@ -109,7 +109,7 @@ LONG pci_list_handlers(ULONG line, ULONG index, LONG *handle, pci_handler **rout
     uint32_t hooked, token, same;
     LONG number = pci_list_chain(board, line, index, &hooked, &token, &same);
     *handle = (LONG)hooked;
-    int ours = number == PCI_SUCCESSFUL && token == hooked;
+    int ours = number == PCI_SUCCESSFUL && token == hooked && hooked <= 16;
     *routine = ours ? kept_of(token)->routine : NULL;
     *parameter = ours ? kept_of(token)->parameter : NULL;
     return number;

@@ -89,6 +89,11 @@ for part in 0 1 2 3 4 5 6 7; do
 done
 echo "host: a library whose board has another layout, caught for each part"
 
+# The test's test_special_cycle stands in for the library's bios_special_cycle.
+build passed -Dbios_special_cycle=test_special_cycle host/tests/passed.c host/pci_driver.c
+target/host/passed || fail "the arguments of a special cycle do not reach the library"
+echo "host: a special cycle's arguments reach the library"
+
 # Each call must abort; status 0 says that it came back, 2 that there is no call of that number.
 build overlap "" host/tests/overlap.c
 build overlap-release -DNDEBUG host/tests/overlap.c

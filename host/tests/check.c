@@ -55,13 +55,12 @@ void load_fresh(void) {
     GIVES(0, pci_load(&board, cells, sizeof cells, image, sizeof image, &place));
 }
 
-static void put_long(uint8_t *at, uint32_t value) {
+void put_long(uint8_t *at, uint32_t value) {
     for (int i = 0; i < 4; i++)
         at[i] = (uint8_t)(value >> (24 - 8 * i));
 }
 
-/* A trailer after so many records, which document 01 puts at the image's end. */
-static void put_trailer(uint8_t *records, uint32_t number) {
+void put_trailer(uint8_t *records, uint32_t number) {
     uint32_t sum = 0;
     uint8_t *trailer = records + 544 * number;
     for (uint8_t *byte = records; byte < trailer; byte++)
@@ -83,6 +82,8 @@ int main(int argc, char **argv) {
     test_bios();
     test_altered();
     test_driver();
+    test_passed_on();
+    test_orders();
     test_trace();
     test_trace_refused();
     test_incident(argv[1]);

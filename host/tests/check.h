@@ -35,8 +35,16 @@ void keep_state(void);
    are not zero. */
 void load_fresh(void);
 
+/* A number of an image, high byte first. */
+void put_long(uint8_t *at, uint32_t value);
+
+/* A trailer after so many records, which document 01 puts at the image's end. */
+void put_trailer(uint8_t *records, uint32_t number);
+
 void test_bios(void);
 void test_driver(void);
+void test_passed_on(void);
+void test_orders(void);
 void test_altered(void);
 void test_trace(void);
 void test_trace_refused(void);

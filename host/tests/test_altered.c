@@ -85,6 +85,58 @@ static void test_exponents(void) {
     GIVES(0xA5, out[40]);
 }
 
+/* The windows of both memory bases have k 0 in the records, and the kept list stands: data calls
+   and the listing go by the list, descriptors and the image by the records. */
+static void check_list_stands(void) {
+    uint32_t value;
+    int fault;
+    window_is(0, 0, 0x80000000, 1024, 1, 0);
+    window_is(1, 0, 0x80000400, 1024, 2, 0);
+    window_is(2, 1, 0x00000100, 16, 2, 1);
+    windows_are(3);
+    ALTERS(0, pci_write_data(&board, cells, 2064, 0, 4, 1, 0x800003FC, 0x11223344));
+    LEAVES(0, pci_read_data(&board, cells, 2064, 0, 2, 1, 0x800003FC, &value));
+    GIVES(0x3344, value);
+    LEAVES(0x44, pci_fast_read_data(&board, cells, 2064, 0, 1, 1, 0x800003FC, &fault));
+    GIVES(0, fault);
+    LEAVES(-8, pci_read_data(&board, cells, 2064, 0, 4, 1, 0x80000400, &value));
+    LEAVES(-7, pci_read_data(&board, cells, 2063, 0, 4, 1, 0x80000000, &value));
+}
+
+static void check_records_count(void) {
+    uint8_t out[1100];
+    uint32_t place;
+    memset(out, 0xA5, sizeof out);
+    LEAVES(-8, pci_get_resource(&board, 1, out, sizeof out));
+    LEAVES(-7, pci_get_resource(&board, 2, out, 19));
+    LEAVES(0, pci_get_resource(&board, 2, out, 40));
+    GIVES(0, memcmp(out, (uint8_t[12]){0, 20, 0xC1, 0x02, 0, 0, 1, 0, 0, 0, 0, 16}, 12));
+    GIVES(0xA5, out[20]);
+    LEAVES(0, pci_write_image(&board, out, sizeof out));
+    GIVES(0, out[ENTRY(0, 0)] + out[ENTRY(1, 0)]);
+    GIVES(image[1099] - 20, out[1099]);
+    GIVES(6, pci_check_image(out, sizeof out, &place));
+    GIVES(0, place);
+}
+
+/* "k outside 2..16 as no window" of a record alone: the list follows when it is worked out afresh,
+   by a configuration write or a reset. The kept total stays. */
+static void test_exponents_of_records_alone(void) {
+    for (int by_reset = 0; by_reset < 2; by_reset++) {
+        load_fresh();
+        board.records[ENTRY(0, 0) + EXPONENT] = 0;
+        board.records[ENTRY(1, 0) + EXPONENT] = 0;
+        check_list_stands();
+        check_records_count();
+        LEAVES(-7, pci_reset(&board, cells, 2063));
+        ALTERS(0, by_reset ? pci_reset(&board, cells, 2064)
+                           : pci_write_config(&board, 1, 1, 0x04, 0x03));
+        window_is(0, 1, 0x00000100, 16, 2, 1);
+        windows_are(1);
+        GIVES(2064, board.cell_offsets[96]);
+    }
+}
+
 /* "another byte order as 0, widths by bits 0 to 2": order 7, widths 15. */
 static void test_orders_and_widths(void) {
     uint8_t out[40];
@@ -153,6 +205,7 @@ void test_altered(void) {
     test_counts();
     test_one_of_two();
     test_exponents();
+    test_exponents_of_records_alone();
     test_orders_and_widths();
     test_cells_past_the_buffer();
     test_pin_gone();

@@ -1,2 +1,3 @@
--- The definitions that contracts cite.
+-- The definitions that contracts cite, and rows of them with literal numbers.
 pub mod Convert
+pub mod Rows

@@ -29,7 +29,7 @@ pub fn bus_to_cpu(header: &Header, records: &Records, handle: u32, address: BusA
     if !is_handle(header, handle) {
         return ToCpu {
             status: Status::BAD_HANDLE,
-            address: CpuAddress(0),
+            address: CpuAddress::of(0),
         };
     }
     ToCpu {
@@ -45,7 +45,7 @@ pub fn cpu_to_bus(header: &Header, records: &Records, handle: u32, address: CpuA
     if !is_handle(header, handle) {
         return ToBus {
             status: Status::BAD_HANDLE,
-            address: BusAddress(0),
+            address: BusAddress::of(0),
         };
     }
     ToBus {

@@ -141,8 +141,8 @@ pub extern "C" fn bios_bus_to_cpu(
     ensures { λ r. ⌜ toCpuNumbers r (now (cpu .exit))
         ≡ busToCpu (now (header .entry)) (now (records .entry)) handle (bus address) ⌝ }
 {
-    let to = bus_to_cpu(header, records, handle, BusAddress(address));
-    *cpu = to.address.0;
+    let to = bus_to_cpu(header, records, handle, BusAddress::of(address));
+    *cpu = to.address.number();
     to.status.number()
 }
 
@@ -158,7 +158,7 @@ pub extern "C" fn bios_cpu_to_bus(
     ensures { λ r. ⌜ toBusNumbers r (now (bus .exit))
         ≡ cpuToBus (now (header .entry)) (now (records .entry)) handle (cpu address) ⌝ }
 {
-    let to = cpu_to_bus(header, records, handle, CpuAddress(address));
-    *bus = to.address.0;
+    let to = cpu_to_bus(header, records, handle, CpuAddress::of(address));
+    *bus = to.address.number();
     to.status.number()
 }

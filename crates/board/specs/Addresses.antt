@@ -10,6 +10,13 @@ bus a = record { 0 = a }
 abbrev pub cpu : ℕ → CpuAddress
 cpu a = record { 0 = a }
 
+-- and back
+abbrev pub busNumber : BusAddress → ℕ
+busNumber a = a .0
+
+abbrev pub cpuNumber : CpuAddress → ℕ
+cpuNumber a = a .0
+
 -- the CPU address is the PCI address plus the offset, modulo 2^32
 abbrev pub cpuAddress : ℕ → BusAddress → CpuAddress
 cpuAddress offset a = record { 0 = (a .0 + offset) % 2 ^ 32 }

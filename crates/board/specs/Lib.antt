@@ -1,4 +1,4 @@
--- The definitions that contracts cite.
+-- The definitions that contracts cite, and rows of them with literal numbers.
 pub mod Statuses
 pub mod Addresses
 pub mod Layout
@@ -7,3 +7,4 @@ pub mod Parts
 pub mod Reads
 pub mod Spaces
 pub mod FromC
+pub mod Rows

@@ -3,8 +3,8 @@ use crate::layout::FUNCTIONS;
 use crate::layout::Header;
 use numbers::number::u32_at;
 ghost use mathlib.Core.Path.{_≡_};
-ghost use Prim.Native.Nat.{_-_, _<_};
-ghost use Rattle.board.specs.Handles.{functionCount, isHandle};
+ghost use Prim.Native.Nat.{_-_};
+ghost use Rattle.board.specs.Handles.{functionCount, isHandle, placeOfHandle};
 
 // The functions there are: the kept count, above 16 read as 16.
 pub fn function_count(header: &Header) -> u32
@@ -30,10 +30,10 @@ pub fn place(handle: u32) -> u32
     if handle == 0 { 0 } else { handle - 1 }
 }
 
-// The same of a number that is not 0, without a test, for data calls; docs/DECISIONS.md says what
-// the test costs them.
+// The same without a test, for data calls; of 0 the largest number. docs/DECISIONS.md says what the
+// test costs them.
 pub fn place_of_handle(handle: u32) -> u32
-    ensures { λ r. ⌜ (0 < handle → r ≡ handle - 1) ⌝ }
+    ensures { λ r. ⌜ r ≡ placeOfHandle handle ⌝ }
 {
     std::num::wrapping_sub_u32(handle, 1)
 }

@@ -1,3 +1,4 @@
--- The laws that proofs here cite.
+-- The laws that proofs here cite, and the rows.
 pub mod Signed
 pub mod Found
+pub mod Rows

@@ -106,13 +106,13 @@ pub fn of_read(read: Read) -> Answer
 pub fn of_to_cpu(to: ToCpu) -> Answer
     ensures { λ r. ⌜ r ≡ ofToCpu to ⌝ }
 {
-    of_value(to.status, to.address.0)
+    of_value(to.status, to.address.number())
 }
 
 pub fn of_to_bus(to: ToBus) -> Answer
     ensures { λ r. ⌜ r ≡ ofToBus to ⌝ }
 {
-    of_value(to.status, to.address.0)
+    of_value(to.status, to.address.number())
 }
 
 // The answer of a fast read, which has no number.
@@ -167,13 +167,20 @@ fn values_of(window: ListedWindow, handle: u32, base: u32, contested: bool) -> V
     match window {
         ListedWindow::Memory { start, length } => values(
             0,
-            start.0,
+            start.number(),
             length,
             handle,
             base,
             contested,
         ),
-        ListedWindow::Io { start, length } => values(1, start.0, length, handle, base, contested),
+        ListedWindow::Io { start, length } => values(
+            1,
+            start.number(),
+            length,
+            handle,
+            base,
+            contested,
+        ),
     }
 }
 

@@ -1,3 +1,4 @@
--- The format of calls and answers, and what it means.
+-- The format of calls and answers, what it means, and rows.
 pub mod Format
 pub mod Meaning
+pub mod Rows

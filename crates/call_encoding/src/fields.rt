@@ -61,8 +61,8 @@ fn query_fields(query: Query) -> Fields
     match query {
         Query::FindPciDevice { id, index } => row(4, 0, 0, 0, 0, id, index),
         Query::FindPciClasscode { class, index } => row(5, 0, 0, 0, 0, class, index),
-        Query::BusToCpu { handle, address } => row(12, 0, 0, 0, handle, address.0, 0),
-        Query::CpuToBus { handle, address } => row(13, 0, 0, 0, handle, address.0, 0),
+        Query::BusToCpu { handle, address } => row(12, 0, 0, 0, handle, address.number(), 0),
+        Query::CpuToBus { handle, address } => row(13, 0, 0, 0, handle, address.number(), 0),
         Query::ListWindow { index } => row(14, 0, 0, 0, 0, index, 0),
         Query::ListChain { line, index } => row(18, 0, 0, 0, 0, line, index),
         Query::GetCardUsed { handle } => row(19, 0, 0, 0, handle, 0, 0),
@@ -102,10 +102,11 @@ pub fn fields_of(call: Call) -> Fields
         } => {
             let w = bytes(width);
             let s = space_number(space);
+            let a = address.number();
             match access {
-                Access::Read => row(9, w, s, 0, handle, address.0, 0),
-                Access::FastRead => row(10, w, s, 0, handle, address.0, 0),
-                Access::Write { value } => row(11, w, s, 0, handle, address.0, value),
+                Access::Read => row(9, w, s, 0, handle, a, 0),
+                Access::FastRead => row(10, w, s, 0, handle, a, 0),
+                Access::Write { value } => row(11, w, s, 0, handle, a, value),
             }
         }
         Call::GetResource { handle } => row(15, 0, 0, 0, handle, 0, 0),
@@ -186,30 +187,30 @@ pub fn call_of(f: Fields) -> Call
             space: space,
             width: width,
             handle: handle,
-            address: BusAddress(a),
+            address: BusAddress::of(a),
             access: Access::Read,
         },
         10 => Call::Data {
             space: space,
             width: width,
             handle: handle,
-            address: BusAddress(a),
+            address: BusAddress::of(a),
             access: Access::FastRead,
         },
         11 => Call::Data {
             space: space,
             width: width,
             handle: handle,
-            address: BusAddress(a),
+            address: BusAddress::of(a),
             access: Access::Write { value: b },
         },
         12 => Call::Ask(Query::BusToCpu {
             handle: handle,
-            address: BusAddress(a),
+            address: BusAddress::of(a),
         }),
         13 => Call::Ask(Query::CpuToBus {
             handle: handle,
-            address: CpuAddress(a),
+            address: CpuAddress::of(a),
         }),
         14 => Call::Ask(Query::ListWindow { index: a }),
         15 => Call::GetResource { handle: handle },

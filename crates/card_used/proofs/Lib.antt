@@ -1,2 +1,3 @@
--- The laws of the used marks.
+-- The laws of the used marks, and the rows.
 pub mod Marks
+pub mod Rows

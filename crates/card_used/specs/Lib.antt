@@ -1,3 +1,4 @@
--- The used marks, and what they mean.
+-- The used marks, what they mean, and rows.
 pub mod Used
 pub mod Meaning
+pub mod Rows

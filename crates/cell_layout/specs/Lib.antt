@@ -1,3 +1,4 @@
--- The cells of the windows, and what their offsets mean.
+-- The cells of the windows, what their offsets mean, and rows.
 pub mod Cells
 pub mod Meaning
+pub mod Rows

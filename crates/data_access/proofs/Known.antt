@@ -1,11 +1,12 @@
 -- A data call as C asks for it, of a width that is known: what is at the target of what was found is
 -- the call's, for reads and writes alike.
-use Prim.Native.Nat.{ℕ, _-_, _<_}
+use Prim.Native.Nat.{ℕ}
 use mathlib.Core.List.{List}
 use mathlib.Core.Path.{_≡_, sym, _∙_, ap}
 use lib.ListN.{length}
 use Rattle.numbers.specs.Numbers.{bytes}
 use Rattle.numbers.specs.declared.number.Width.{Width}
+use Rattle.board.specs.Handles.{placeOfHandle}
 use Rattle.board.specs.Spaces.{spaceNumber}
 use Rattle.board.specs.declared.space.Space.{Space}
 use Rattle.board.specs.declared.from_c.CWidth.{CWidth}
@@ -27,7 +28,7 @@ pub of-known : {A : Type 0} (call : CWidth → Call A) (access : ℕ → List �
     → decoded ≡ Known width
     → space ≡ namedSpace
     → finding ≡ findIn (bytes width) header records windows offsets (length cells) (spaceNumber space) handle address
-    → (0 < handle → function ≡ handle - 1)
+    → function ≡ placeOfHandle handle
     → target ≡ cellTargetIn records offsets (length cells) (bytes width) function finding
     → r ≡ access (bytes width) cells target
     → access (bytes width) cells (cellTarget (bytes width) header records windows offsets (length cells) (spaceNumber space) handle address)

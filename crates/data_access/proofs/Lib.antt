@@ -1,3 +1,5 @@
--- The laws that proofs here cite.
+-- The laws that proofs here and above cite, and the rows.
 mod Joined
 mod Known
+pub mod Meaning
+pub mod Rows

@@ -45,7 +45,7 @@ pub fn c_read_data(
 {
     match width_from_c(width) {
         CWidth::Known(width) => {
-            let at = data_address(space_from_c(io), width, handle, BusAddress(address));
+            let at = data_address(space_from_c(io), width, handle, BusAddress::of(address));
             let finding = find_window(header, records, windows, offsets, cells.len(), at);
             let function = place_of_handle(handle);
             let target = cell_target_of(records, offsets, cells.len(), width, function, finding);
@@ -76,7 +76,7 @@ pub fn c_fast_read_data(
 {
     match width_from_c(width) {
         CWidth::Known(width) => {
-            let at = data_address(space_from_c(io), width, handle, BusAddress(address));
+            let at = data_address(space_from_c(io), width, handle, BusAddress::of(address));
             let finding = find_window(header, records, windows, offsets, cells.len(), at);
             let function = place_of_handle(handle);
             let target = cell_target_of(records, offsets, cells.len(), width, function, finding);
@@ -109,7 +109,7 @@ pub fn c_write_data(
 {
     match width_from_c(width) {
         CWidth::Known(width) => {
-            let at = data_address(space_from_c(io), width, handle, BusAddress(address));
+            let at = data_address(space_from_c(io), width, handle, BusAddress::of(address));
             let finding = find_window(header, records, windows, offsets, cells.len(), at);
             let function = place_of_handle(handle);
             let target = cell_target_of(records, offsets, cells.len(), width, function, finding);

@@ -1,8 +1,9 @@
 -- What is found is found for a handle, whose function stands at the place one below it.
-use Prim.Native.Nat.{ℕ, _-_, _<_}
+use Prim.Native.Nat.{ℕ, _-_}
 use mathlib.Core.List.{List}
 use mathlib.Core.Path.{_≡_, refl, sym, _∙_}
-use Rattle.board.proofs.Handles.{handle-place}
+use Rattle.board.specs.Handles.{placeOfHandle}
+use Rattle.board.proofs.Handles.{place-named}
 use Rattle.data_window.specs.declared.find.Finding.{Finding}
 use Rattle.data_window.specs.declared.find.Finding.the-variants.{Found, Refused}
 use Rattle.data_window.specs.Find.{findIn}
@@ -17,14 +18,14 @@ unfolding cellTargetOf
 found-only records offsets room w p q (Found base distance remaining) h = rw (h base distance remaining refl)
 found-only records offsets room w p q (Refused r) h = refl
 
--- so the target for what is found is the access's, whatever the function's place is given as for a number that is no handle
+-- so the target for what is found is the access's: for a number that is no handle nothing is found
 pub target-named : (header records windows offsets : List ℕ) (w room space handle address function : ℕ) (finding : Finding) (target : CellTarget)
     → finding ≡ findIn w header records windows offsets room space handle address
-    → (0 < handle → function ≡ handle - 1)
+    → function ≡ placeOfHandle handle
     → target ≡ cellTargetIn records offsets room w function finding
     → target ≡ cellTarget w header records windows offsets room space handle address
 target-named header records windows offsets w room space handle address function finding target f h p =
     p
     ∙ found-only records offsets room w function (handle - 1) finding
-    (λ base distance remaining e. h (handle-place header handle (found-means _ _ _ _ _ _ _ _ base distance remaining (sym f ∙ e) .0 .0) .0))
+    (λ base distance remaining e. h ∙ place-named header handle (found-means _ _ _ _ _ _ _ _ base distance remaining (sym f ∙ e) .0 .0))
     ∙ rw f

@@ -1,3 +1,4 @@
--- The definitions that contracts cite, and the statements about them.
+-- The definitions that contracts cite, the statements about them and their rows.
 pub mod Cells
 pub mod Meaning
+pub mod Rows

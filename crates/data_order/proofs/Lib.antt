@@ -1,2 +1,3 @@
--- The law that crates above cite.
+-- The law that crates above cite, and the rows.
 pub mod Windows
+pub mod Rows

@@ -1,3 +1,4 @@
--- The laws of the search for a window.
+-- The laws of the search for a window, and the rows.
 pub mod Searches
 pub mod Meaning
+pub mod Rows

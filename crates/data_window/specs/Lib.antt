@@ -1,3 +1,4 @@
--- The window for a handle, and what finding it means.
+-- The window for a handle, what finding it means, and rows.
 pub mod Find
 pub mod Meaning
+pub mod Rows

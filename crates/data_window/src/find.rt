@@ -162,9 +162,10 @@ pub fn find_window(
 {
     let space = at.space;
     let width = at.width;
+    let address = at.address.number();
     let good = is_handle(header, at.handle);
     let short = room < u32_at(offsets, WINDOWS) as usize;
-    let aligned = is_multiple_by_shift(at.address.0, width);
+    let aligned = is_multiple_by_shift(address, width);
     if !good {
         return Finding::Refused(DataRefusal::BadHandle);
     }
@@ -174,5 +175,5 @@ pub fn find_window(
     if !aligned {
         return Finding::Refused(DataRefusal::NotAligned);
     }
-    in_list(records, windows, space, width, at.handle, at.address.0)
+    in_list(records, windows, space, width, at.handle, address)
 }

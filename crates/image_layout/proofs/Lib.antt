@@ -1,3 +1,4 @@
--- The laws that proofs here and above cite.
+-- The laws that proofs here and above cite, and the rows.
 pub mod Lists
 pub mod Ranges
+pub mod Rows

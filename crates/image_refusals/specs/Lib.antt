@@ -1,3 +1,4 @@
--- The definitions that contracts cite.
+-- The definitions that contracts cite, and their rows.
 pub mod Refusals
 pub mod Steps
+pub mod Rows

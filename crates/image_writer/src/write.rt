@@ -70,7 +70,8 @@ pub fn write_image(header: &Header, records: &Records, out: &mut [u8]) -> u8
         ≡ writeImage (now (header .entry)) (now (records .entry)) (now (out .entry)) ⌝ }
 {
     let count = function_count(header);
-    if out.len() < image_size(count) {
+    let size = image_size(count);
+    if out.len() < size {
         return 1;
     }
     if count == 0 {

@@ -1,4 +1,4 @@
--- The laws that proofs here and above cite.
+-- The laws that proofs here and above cite, and the rows.
 pub mod Entries
 pub mod Positions
 pub mod Moves
@@ -8,3 +8,4 @@ pub mod Ordered
 pub mod Packed
 pub mod Repacked
 pub mod Room
+pub mod Rows

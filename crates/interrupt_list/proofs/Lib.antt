@@ -1,2 +1,3 @@
--- The laws of the chain listing.
+-- The laws of the chain listing, and the rows.
 pub mod Listings
+pub mod Rows

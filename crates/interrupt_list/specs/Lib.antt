@@ -1,3 +1,4 @@
--- The chain listing, and what it means.
+-- The chain listing, what it means, and rows.
 pub mod Listing
 pub mod Meaning
+pub mod Rows

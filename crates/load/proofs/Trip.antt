@@ -161,23 +161,21 @@ installed-records : (image cells : List ℕ) → installed image cells .records 
 unfolding restarted
 installed-records image cells = refl
 
--- the writer's answer of n loaded records, where the output has just the room
-writes : (n : ℕ) (r out : List ℕ) → 0 < n → n ≤ functionsMax → length r ≡ imageRecord * n → length out ≡ imageSize n
-    → writeImage (headerOf n) (padded r) out ≡ writerOutcome 0 (r ++ trailer n (sum r))
+-- the writer's answer of n loaded records, where the output has the room
+writes : (n : ℕ) (r out : List ℕ) → 0 < n → n ≤ functionsMax → length r ≡ imageRecord * n → imageSize n ≤ length out
+    → writeImage (headerOf n) (padded r) out ≡ writerOutcome 0 ((r ++ trailer n (sum r)) ++ drop (imageSize n) out)
 unfolding writeImage
 writes n r out some few long room =
     let c : functionCount (headerOf n) ≡ n = omega arith in
     let t : take (recordSize * n) (padded r) ≡ r = take-at r _ (recordSize * n) long in
-    let d : drop (imageSize n) out ≡ [] = drop-of-length-le out {i = imageSize n} (omega arith) in
-    rw (c, le-ltb (length out) (imageSize n) (omega arith), ne-eqb n 0 (omega arith), t, d)
-    (ap (writerOutcome 0) (append-nil (r ++ trailer n (sum r))))
+    rw (c, le-ltb (length out) (imageSize n) room, ne-eqb n 0 (omega arith), t)
 
 -- an accepted image, loaded and written
 again : List ℕ → List ℕ
 again image = recordsOf image ++ trailer (countOf image) (sum (recordsOf image))
 
-rewritten-is : (p : Parts) (image out : List ℕ) → load p image .verdict ≡ accepted → length out ≡ imageSize (countOf image)
-    → rewritten p image out ≡ writerOutcome 0 (again image)
+rewritten-is : (p : Parts) (image out : List ℕ) → load p image .verdict ≡ accepted → imageSize (countOf image) ≤ length out
+    → rewritten p image out ≡ writerOutcome 0 (again image ++ drop (imageSize (countOf image)) out)
 unfolding again
 rewritten-is p image out e room =
     let k = accepted-image image (length (p .cells)) (load-accepted p image e) in
@@ -192,13 +190,15 @@ again-says image room k =
 
 pub round-trip : RoundTrip
 round-trip p image out e room =
+    let n = imageSize (countOf image) in
     let w = rewritten-is p image out e room in
     let cells = length (p .cells) in
     let k = accepted-image image cells (load-accepted p image e) in
     let s = again-says image cells k in
     record {
       number = ap (λ (x : WriterOutcome). x .number) w;
-      loads = λ q. ap (λ (x : WriterOutcome). load q (x .out)) w
+      loads = λ q. ap (λ (x : WriterOutcome). load q (take n (x .out))) w
+          ∙ ap (load q) (take-at (again image) (drop n out) n (s .size))
           ∙ loads-alike q image (again image) cells k (accepted-again image (again image) cells k s) (s .count) (s .records);
     }
 
@@ -252,4 +252,6 @@ again-same image room k size small =
 pub written-back : WrittenBack
 written-back p image out e size small room =
     let k = accepted-image image (length (p .cells)) (load-accepted p image e) in
-    ap (λ (x : WriterOutcome). x .out) (rewritten-is p image out e (room ∙ size)) ∙ again-same image (length (p .cells)) k size small
+    ap (λ (x : WriterOutcome). x .out) (rewritten-is p image out e (omega (arith, size, room)))
+    ∙ ap (λ (l : List ℕ). l ++ drop (imageSize (countOf image)) out) (again-same image (length (p .cells)) k size small)
+    ∙ ap (λ (n : ℕ). image ++ drop n out) (sym size)

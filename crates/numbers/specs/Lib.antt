@@ -1,3 +1,4 @@
--- Numbers of w bytes, and tables.
+-- Numbers of w bytes, tables, and rows.
 pub mod Tables
 pub mod Numbers
+pub mod Rows

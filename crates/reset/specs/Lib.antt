@@ -1,2 +1,3 @@
--- The definitions that contracts cite.
+-- The definitions that contracts cite, and their rows.
 pub mod Reset
+pub mod Rows

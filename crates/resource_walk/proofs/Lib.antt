@@ -1,3 +1,4 @@
--- The laws of walks.
+-- The laws of walks, and the rows.
 pub mod Walks
 pub mod WalkBack
+pub mod Rows

@@ -1,3 +1,4 @@
--- Walks through descriptors, and what they mean.
+-- Walks through descriptors, what they mean, and rows.
 pub mod Walk
 pub mod Meaning
+pub mod Rows

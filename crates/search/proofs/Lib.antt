@@ -1,2 +1,3 @@
--- The laws of searches.
+-- The laws of searches, and the rows.
 pub mod Searches
+pub mod Rows

@@ -1,4 +1,5 @@
--- Searching, and what it means.
+-- Searching, what it means, and rows.
 pub mod Search
 pub mod Steps
 pub mod Meaning
+pub mod Rows

@@ -1,2 +1,3 @@
--- The definitions that contracts cite.
+-- The definitions that contracts cite, and rows.
 pub mod Unsupported
+pub mod Rows

@@ -1,3 +1,4 @@
--- The definitions that contracts cite.
+-- The definitions that contracts cite, and rows.
 pub mod Window
 pub mod Kept
+pub mod Rows

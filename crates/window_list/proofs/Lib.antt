@@ -1,4 +1,4 @@
--- Laws of the window list that function proofs and the crates above cite.
+-- Laws of the window list that function proofs and the crates above cite, and the rows.
 pub mod Lists
 pub mod Order
 pub mod Open
@@ -7,3 +7,4 @@ pub mod Packed
 pub mod Insert
 pub mod Sweep
 pub mod KeptArray
+pub mod Rows

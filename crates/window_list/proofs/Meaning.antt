@@ -16,7 +16,7 @@ use Rattle.numbers.proofs.Tests.{both-true}
 use Rattle.window.specs.Window.{Window, end}
 use Rattle.window_list.specs.Windows.{windowAt, openWindows, sorted, another, contends, any, withMark, listOf}
 use Rattle.window.specs.Window.{In}
-use Rattle.window_list.specs.Meaning.{EveryWindow, howMany, sameRegister, OpenAt, Contests, Contested, Means, ListMeans, Watched, ListDependsOn}
+use Rattle.window_list.specs.Meaning.{EveryWindow, howMany, sameRegister, OpenAt, Contests, Contested, Means, ListMeans, LentListMeans, Watched, ListSame, ListDependsOn}
 use Rattle.window_list.proofs.Lists.{in-every, any-sorted, many-sorted, in-sorted, in-map, map-same, any-in, gather-same}
 use Rattle.window_list.proofs.Order.{Apart, differ, another-by, another-sym, ascending-sorted, ascending-map}
 use Rattle.window_list.proofs.Open.{slot, in-open, open-in, apart-slots}
@@ -166,14 +166,18 @@ module _ (count : ℕ) (k r : ℕ → ℕ → ℕ) where
 
 -- THEOREM: every open window exactly once and nothing else, in order, contested exactly where another open window of its space shares an address
 pub list-means : ListMeans
-list-means header records registers = means (functionCount header) (exponent records) (registerByte registers)
+list-means = means
+
+-- and so the list of the lent parts
+pub lent-list-means : LentListMeans
+lent-list-means header records registers = list-means (functionCount header) (exponent records) (registerByte registers)
 
 base-same : (f g : ℕ → ℕ) (b : ℕ) → b < 6 → ((at : ℕ) → Watched at → f at ≡ g at) → baseRegister f b ≡ baseRegister g b
 base-same f g b h e =
     little-same 4 f g (16 + 4 * b) (16 + 4 * b) (λ i l. ap (λ (x : ℕ). x % 256) (e (16 + 4 * b + i) (inr (omega arith))))
 
-pub list-same : (count : ℕ) (k k′ r r′ : ℕ → ℕ → ℕ) → ((i b : ℕ) → i < count → b < 6 → k i b ≡ k′ i b)
-    → ((i at : ℕ) → i < count → Watched at → r i at ≡ r′ i at) → listOf count k r ≡ listOf count k′ r′
+-- THEOREM: the list depends on the count, the exponents and the watched registers alone
+pub list-same : ListSame
 unfolding listOf openWindows windowAt
 list-same count k k′ r r′ ek er =
     let same : (s : ℕ) → s < 6 * count → windowAt k r (s / 6) (s % 6) ≡ windowAt k′ r′ (s / 6) (s % 6) =
@@ -184,7 +188,7 @@ list-same count k k′ r r′ ek er =
     in
     rw (gather-same (slot k r) (slot k′ r′) (6 * count) same)
 
--- THEOREM: the list depends on the count, the exponents and the watched registers alone
+-- and so the list of the lent parts
 pub list-depends-on : ListDependsOn
 list-depends-on header header′ records records′ registers registers′ e ek er =
     list-same (functionCount header) (exponent records) (exponent records′) (registerByte registers) (registerByte registers′) ek er

@@ -1,5 +1,6 @@
--- The definitions that contracts cite, and what the window list means.
+-- The definitions that contracts cite, what the window list means, and rows.
 pub mod Windows
 pub mod Kept
 pub mod Meaning
 pub mod Steps
+pub mod Rows

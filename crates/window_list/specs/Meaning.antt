@@ -9,7 +9,7 @@ use lib.Dec.{eqb}
 use Rattle.board.specs.Handles.{functionCount}
 use Rattle.board.specs.Layout.{bases, exponent, registerByte, command, baseRegister}
 use Rattle.window.specs.Window.{Window, end, isOpen, windowOf, In}
-use Rattle.window_list.specs.Windows.{withMark, before, windowList}
+use Rattle.window_list.specs.Windows.{withMark, before, listOf, windowList}
 use Rattle.window.specs.Kept.{unpacked}
 use Rattle.window_list.specs.Kept.{keptList}
 
@@ -63,8 +63,13 @@ pub record Means (count : ℕ) (k r : ℕ → ℕ → ℕ) (l : List Window) : T
   pub once : (w : Window) → In w l → howMany (sameRegister w) l ≡ 1
   pub ascending : Ascending l
 
+-- the list of every count of functions, their exponents k and their registers r, whoever holds them
 abbrev pub ListMeans : Type 0
-ListMeans =
+ListMeans = (count : ℕ) (k r : ℕ → ℕ → ℕ) → Means count k r (listOf count k r)
+
+-- so that of the lent parts
+abbrev pub LentListMeans : Type 0
+LentListMeans =
     (header records registers : List ℕ)
     → Means (functionCount header) (exponent records) (registerByte registers)
     (windowList header records registers)
@@ -80,8 +85,16 @@ KeptIsList =
 abbrev pub Watched : ℕ → Type 0
 Watched at = (at ≡ 0x04) ⊎ ((0x10 ≤ at) × (at < 0x28))
 
--- the list depends on the count, the records' exponents and the watched registers of the functions
--- there are, and on nothing else
+-- the list depends on the count, the exponents and the watched registers of the functions there
+-- are, and on nothing else
+abbrev pub ListSame : Type 0
+ListSame =
+    (count : ℕ) (k k′ r r′ : ℕ → ℕ → ℕ)
+    → ((i b : ℕ) → i < count → b < bases → k i b ≡ k′ i b)
+    → ((i at : ℕ) → i < count → Watched at → r i at ≡ r′ i at)
+    → listOf count k r ≡ listOf count k′ r′
+
+-- so that of the lent parts
 abbrev pub ListDependsOn : Type 0
 ListDependsOn =
     (header header′ records records′ registers registers′ : List ℕ)

@@ -58,12 +58,12 @@ fn in_space(io: bool, start: u32, length: u32) -> ListedWindow
 {
     if io {
         return ListedWindow::Io {
-            start: BusAddress(start),
+            start: BusAddress::of(start),
             length: length,
         };
     }
     ListedWindow::Memory {
-        start: BusAddress(start),
+        start: BusAddress::of(start),
         length: length,
     }
 }

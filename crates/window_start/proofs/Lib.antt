@@ -1,2 +1,3 @@
--- The laws that proofs here and above cite.
+-- The laws that proofs here and above cite, and the rows.
 pub mod Starts
+pub mod Rows

@@ -47,11 +47,11 @@ fn show(window: ListedWindow, handle: u32, base: u32, contested: bool) {
     match window {
         ListedWindow::Memory { start, length } => {
             text(b"mem ");
-            range(start.0, length);
+            range(start.number(), length);
         }
         ListedWindow::Io { start, length } => {
             text(b"io ");
-            range(start.0, length);
+            range(start.number(), length);
         }
     }
     text(b" ");

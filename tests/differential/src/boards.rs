@@ -3,6 +3,7 @@
 use crate::random::Random;
 use second::board_b1::{image_of, image_with_notes, plain_record, set_window, Shape};
 use second::{Record, BASES, FUNCTIONS, RECORD_LENGTH};
+use std::ops::Range;
 
 pub const MASKS: usize = 256;
 pub const ENTRIES: usize = 512;
@@ -12,8 +13,11 @@ pub const FIXED: [usize; 18] = [
     0x00, 0x01, 0x02, 0x03, 0x08, 0x09, 0x0A, 0x0B, 0x0E, 0x2C, 0x2D, 0x2E, 0x2F, 0x30, 0x31, 0x32,
     0x33, 0x3D,
 ];
-/// The least byte of the offset.
+/// The offset, and its least byte.
+pub const OFFSET: Range<usize> = 536..540;
 pub const OFFSET_LOW: usize = 539;
+/// The greatest offset: one that the rules allow, and of all the nearest to wrap.
+pub const LAST_OFFSET: u32 = 0xFFFF_FFFC;
 
 pub struct RandomBoard {
     pub notes: Vec<u8>,
@@ -114,8 +118,17 @@ fn header(random: &mut Random) -> Record {
             }
         }
     }
-    record[0] &= 0x7F;
     record[0x04] = random.pick(&[3, 3, 3, 3, 1, 2, 0, 0xFF, 0xFC]);
+    if random.one_in(6) {
+        record[OFFSET].copy_from_slice(&LAST_OFFSET.to_be_bytes());
+    }
+    keep_rules(&mut record);
+    record
+}
+
+/// Makes a record one that keeps the rules and has no windows.
+pub fn keep_rules(record: &mut Record) {
+    record[0] &= 0x7F;
     record[0x0E] &= 0x80;
     record[0x30..0x34].fill(0);
     record[0x3D] %= 5;
@@ -123,8 +136,15 @@ fn header(random: &mut Random) -> Record {
         record[MASKS + register] = 0;
     }
     record[OFFSET_LOW] &= 0xFC;
-    (0..BASES).for_each(|base| clear_base(&mut record, base));
-    record
+    (0..BASES).for_each(|base| clear_base(record, base));
+}
+
+/// Sixteen records of FFh, the first of them, up to 4, keeping the rules. Only such boards,
+/// which are all refused, have a record sum above 2^21.
+pub fn great_sum(sound: usize) -> [Record; FUNCTIONS] {
+    let mut records = [[0xFF; RECORD_LENGTH]; FUNCTIONS];
+    records[..sound].iter_mut().for_each(keep_rules);
+    records
 }
 
 /// Gives half of the records some of an earlier one's vendor, device and class bytes, so

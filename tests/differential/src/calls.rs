@@ -5,6 +5,7 @@ use crate::chain_calls::ChainCall;
 use crate::parts::first_difference;
 use std::fmt;
 
+#[derive(Clone)]
 pub enum Call {
     /// So many bytes of the cell buffer are lent.
     Load {

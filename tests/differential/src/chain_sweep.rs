@@ -27,7 +27,7 @@ struct Loaded<'a> {
 
 impl<'a> Loaded<'a> {
     fn new(image: Vec<u8>, tally: &'a mut Tally) -> Result<Self, String> {
-        let mut pair = Pair::new(vec![0; 2100]);
+        let mut pair = Pair::new(tally.through, vec![0; 2100]);
         let answer = pair.call(&Call::Load { image, lent: 2100 }, tally)?;
         assert_eq!(answer.number, 0, "a board of the sweep is refused");
         Ok(Loaded { pair, tally })

@@ -40,7 +40,7 @@ struct Loaded<'a> {
 
 impl<'a> Loaded<'a> {
     fn new(image: Vec<u8>, tally: &'a mut Tally) -> Result<Self, String> {
-        let mut pair = Pair::new(vec![0; CELLS]);
+        let mut pair = Pair::new(tally.through, vec![0; CELLS]);
         let answer = pair.call(&Call::Load { image, lent: CELLS }, tally)?;
         assert_eq!(answer.number, 0, "a board of the sweep is refused");
         Ok(Loaded { fresh: pair.parts().clone(), pair, tally })

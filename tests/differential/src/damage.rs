@@ -1,7 +1,7 @@
 //! Damaged images: broken record rules, wrong trailers, cut and lengthened images, flips.
 
 use crate::boards::{
-    clear_base, shape, RandomBoard, ENTRIES, FIRST_BASE, FIXED, MASKS, OFFSET_LOW,
+    clear_base, great_sum, shape, RandomBoard, ENTRIES, FIRST_BASE, FIXED, MASKS, OFFSET_LOW,
 };
 use crate::random::Random;
 use second::board_b1::{image_with_notes, set_window, Shape};
@@ -9,11 +9,12 @@ use second::{Record, BASES, FUNCTIONS, RECORD_LENGTH, TRAILER_LENGTH};
 
 /// An image that is likely refused, for one reason or for several.
 pub fn damaged(random: &mut Random, board: &RandomBoard) -> Vec<u8> {
-    match random.below(12) {
-        0..=3 => broken_rule(random, board),
-        4..=7 => wrong_trailer(random, board),
-        8 => cut(random, board.image()),
-        9 => lengthened(random, board.image()),
+    match random.below(36) {
+        0..=11 => broken_rule(random, board),
+        12..=23 => wrong_trailer(random, board),
+        24..=26 => cut(random, board.image()),
+        27..=29 => lengthened(random, board.image()),
+        30 => great(random, board),
         _ => flipped(random, board.image()),
     }
 }
@@ -192,6 +193,16 @@ fn other_count(random: &mut Random, image: &mut [u8]) {
     }
 }
 
+/// An image with a record sum above 2^21, in the trailer as it is or with one bit changed.
+fn great(random: &mut Random, board: &RandomBoard) -> Vec<u8> {
+    let mut image = image_with_notes(&board.notes, &great_sum(random.within(0..=4)));
+    if random.one_in(2) {
+        let wrong = get(&image, 8, 4) ^ 1 << random.below(32);
+        put(&mut image, 8, 4, wrong);
+    }
+    image
+}
+
 /// An image that lost bytes at its beginning or at its end.
 fn cut(random: &mut Random, image: Vec<u8>) -> Vec<u8> {
     let any = random.below(image.len());
@@ -246,7 +257,23 @@ fn put(image: &mut [u8], at: usize, width: usize, number: u32) {
 #[cfg(test)]
 mod tests {
     use super::*;
-    use second::check_image;
+    use second::{check_image, Verdict};
+
+    /// The sum counts all bits: right it lets the first broken rule be found, and wrong in
+    /// any bit it does not.
+    #[test]
+    fn great_sums() {
+        for sound in 0..=4 {
+            let mut image = image_with_notes(&[], &great_sum(sound));
+            let sum = get(&image, 8, 4);
+            assert!(sum > 1 << 21, "{sum}");
+            assert_eq!(check_image(&image, 0), Verdict { number: 6, place: sound as u32 });
+            for bit in 0..32 {
+                put(&mut image, 8, 4, sum ^ 1 << bit);
+                assert_eq!(check_image(&image, 0), Verdict { number: 5, place: 0 });
+            }
+        }
+    }
 
     /// The breaks are breaks: each one alone is refused with 6 at its place.
     #[test]

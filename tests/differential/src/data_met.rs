@@ -1,6 +1,7 @@
 //! What a data call or a conversion met beside the number of its answer.
 
 use crate::access::DataAccess;
+use crate::boards::LAST_OFFSET;
 use crate::calls::{Answer, Call};
 use crate::data_arguments::offset;
 use crate::data_case::{has_entry, DataCase};
@@ -64,9 +65,13 @@ const CELLS_PAST: &str = "cells past the buffer on an altered board";
 const CELLS_PARTLY_PAST: &str = "cells partly past the buffer on an altered board";
 const NOT_OFFERED_PAST: &str = "an access refused as not offered, its cells past the buffer";
 const WIDTHS_ABOVE: &str = "an accepted access, its widths with bits above bit 2";
+const NO_EXPONENT: &str = "an accepted access, its record's k outside 2..16";
 
 const TO_CPU: [&str; 2] = ["a CPU address below 2^32", "a CPU address wrapped past 2^32"];
 const TO_BUS: [&str; 2] = ["a bus address from above the offset", "a bus address wrapped past 0"];
+/// To CPU, to bus.
+const GREATEST_OFFSET: [&str; 2] =
+    ["a CPU address by offset FFFFFFFCh", "a bus address by offset FFFFFFFCh"];
 
 /// All that a set of runs must have met of these calls.
 pub fn all() -> impl Iterator<Item = &'static str> {
@@ -91,8 +96,10 @@ pub fn all() -> impl Iterator<Item = &'static str> {
         CELLS_PARTLY_PAST,
         NOT_OFFERED_PAST,
         WIDTHS_ABOVE,
+        NO_EXPONENT,
     ];
-    by_order.chain(in_threes).chain(single).chain(TO_CPU).chain(TO_BUS)
+    let conversions = [TO_CPU, TO_BUS, GREATEST_OFFSET].into_iter().flatten();
+    by_order.chain(in_threes).chain(single).chain(conversions)
 }
 
 /// What a call met that left the parts as they were, and these cells.
@@ -115,12 +122,14 @@ pub fn met(call: &Call, answer: &Answer, parts: &Parts, cells: &[u8]) -> Met {
         Call::BusToCpu { handle, address } if answer.number == 0 => {
             let offset = offset(parts, *handle);
             let wraps = address.checked_add(offset).is_none();
-            vec![(TO_CPU[usize::from(wraps)], offset != 0)]
+            let greatest = (GREATEST_OFFSET[0], offset == LAST_OFFSET);
+            vec![(TO_CPU[usize::from(wraps)], offset != 0), greatest]
         }
         Call::CpuToBus { handle, address } if answer.number == 0 => {
             let offset = offset(parts, *handle);
             let wraps = address.checked_sub(offset).is_none();
-            vec![(TO_BUS[usize::from(wraps)], offset != 0)]
+            let greatest = (GREATEST_OFFSET[1], offset == LAST_OFFSET);
+            vec![(TO_BUS[usize::from(wraps)], offset != 0), greatest]
         }
         _ => Met::new(),
     }
@@ -143,7 +152,7 @@ fn data(case: &DataCase, names: &[[&'static str; 3]; 5]) -> Met {
 }
 
 fn accepted(case: &DataCase, names: &[[&'static str; 3]; 5]) -> Met {
-    let Some([_, order, widths, _]) = case.entry() else {
+    let Some([k, order, widths, _]) = case.entry() else {
         return Met::new();
     };
     let order = [0, 1, 2, 15].iter().position(|&known| known == order).unwrap_or(4);
@@ -153,6 +162,7 @@ fn accepted(case: &DataCase, names: &[[&'static str; 3]; 5]) -> Met {
         (IO_NUMBER, case.access.io > 1),
         (LAST_ADDRESS, case.access.address == u32::MAX),
         (WIDTHS_ABOVE, widths > 7),
+        (NO_EXPONENT, !(2..=16).contains(&k)),
     ]
 }
 
@@ -289,6 +299,9 @@ mod tests {
         b1.parts.cell_offsets[0] = 8;
         b1.parts.windows[1] = b1.parts.windows[0];
         assert_eq!(read(&mut b1, FIRST), [WIDTHS_ABOVE, FIRST_TAKEN]);
+        b1.parts.records[ENTRY_ORDER - 1] = 0;
+        assert_eq!(read(&mut b1, FIRST), [WIDTHS_ABOVE, NO_EXPONENT, FIRST_TAKEN]);
+        b1.parts.records[ENTRY_ORDER - 1] = 10;
         b1.parts.windows[0] |= 6 << 18;
         assert_eq!(read(&mut b1, FIRST), [WIDTHS_ABOVE, PASSED_OVER]);
         b1.parts.windows[1] |= 7 << 18;
@@ -309,5 +322,8 @@ mod tests {
         assert_eq!(met_by(&mut b1, to_cpu(0x8000_0000)), [TO_CPU[1]]);
         assert_eq!(met_by(&mut b1, to_bus(0x8000_0000)), [TO_BUS[0]]);
         assert_eq!(met_by(&mut b1, to_bus(0x7FFF_FFFF)), [TO_BUS[1]]);
+        b1.parts.records[536..540].copy_from_slice(&LAST_OFFSET.to_be_bytes());
+        assert_eq!(met_by(&mut b1, to_cpu(3)), [TO_CPU[0], GREATEST_OFFSET[0]]);
+        assert_eq!(met_by(&mut b1, to_bus(0xFFFF_FFFC)), [TO_BUS[0], GREATEST_OFFSET[1]]);
     }
 }

@@ -35,7 +35,7 @@ struct Loaded<'a> {
 
 impl<'a> Loaded<'a> {
     fn new(image: Vec<u8>, tally: &'a mut Tally) -> Result<Self, String> {
-        let mut pair = Pair::new(vec![0xEE; CELLS]);
+        let mut pair = Pair::new(tally.through, vec![0xEE; CELLS]);
         let answer = pair.call(&Call::Load { image, lent: CELLS }, tally)?;
         assert_eq!(answer.number, 0, "a board of the sweep is refused");
         Ok(Loaded { pair, value: 0x0123_4567, tally })

@@ -1,10 +1,11 @@
-//! `differential RUNS [SEED] [--tally]`: the proved code against `second`, on sweeps and random
-//! runs.
+//! `differential RUNS [SEED] [--tally] [--through=LAYER]`: the proved code against `second`, on
+//! sweeps and random runs.
 #![deny(unsafe_op_in_unsafe_fn)]
 
 mod access;
 mod alter;
 mod arguments;
+mod bios_layer;
 mod boards;
 mod calls;
 mod chain_arguments;
@@ -21,7 +22,12 @@ mod data_case;
 mod data_met;
 mod data_model;
 mod data_sweep;
+mod driver_layer;
 mod guards;
+mod host_functions;
+mod host_reached;
+mod host_record;
+mod layer;
 mod met;
 mod model;
 mod pair;
@@ -48,6 +54,7 @@ mod sweep;
 mod tally;
 mod used_met;
 
+use layer::Through;
 use std::process::ExitCode;
 use tally::Tally;
 
@@ -60,18 +67,21 @@ fn main() -> ExitCode {
         Some([runs, seed]) => (*runs, *seed),
         _ => return usage(),
     };
-    if flags.iter().any(|flag| flag != "--tally") {
-        return usage();
+    let (mut tally, mut prints) = (Tally::default(), false);
+    for flag in &flags {
+        match flag.strip_prefix("--through=").map(Through::named) {
+            Some(Some(through)) => tally.through = through,
+            None if flag == "--tally" => prints = true,
+            _ => return usage(),
+        }
     }
-    let mut tally = Tally::default();
     let outcome = compared(runs, seed, &mut tally);
-    if !flags.is_empty() {
+    if prints {
         tally.print();
     }
     match outcome {
         Ok(()) => {
-            let (calls, scripts) = (tally.calls, tally.scripts.scripts);
-            println!("differential: {runs} runs, {calls} calls, {scripts} scripts, equal");
+            println!("differential: {runs} runs, {}, equal", tally.made());
             ExitCode::SUCCESS
         }
         Err(fault) => {
@@ -82,28 +92,35 @@ fn main() -> ExitCode {
 }
 
 /// Performs the sweeps, then the runs of as many seeds from the first on. Of the sweeps
-/// only calls and scripts are counted: the runs must meet everything by themselves.
+/// only calls and scripts are counted: the runs must meet everything by themselves. A C
+/// layer has no scripts; of it every function must be reached.
 fn compared(runs: u64, seed: u64, tally: &mut Tally) -> Result<(), String> {
-    let mut swept = Tally::default();
-    sweep::sweep(&mut swept)?;
+    let exports = tally.through == Through::Exports;
+    let mut swept = Tally::new(tally.through);
+    if exports {
+        sweep::sweep(&mut swept)?;
+        tally.scripts.scripts = script_sweep::sweep()?;
+    }
     config_sweep::sweep(&mut swept)?;
     data_sweep::sweep(&mut swept)?;
     resource_sweep::sweep(&mut swept)?;
     chain_sweep::sweep(&mut swept)?;
     tally.calls = swept.calls;
-    tally.scripts.scripts = script_sweep::sweep()?;
     for run in 0..runs {
         let seed = seed.wrapping_add(run);
         runs::run(seed, tally)?;
-        script_runs::run(seed, &mut tally.scripts)?;
+        if exports {
+            script_runs::run(seed, &mut tally.scripts)?;
+        }
     }
-    match tally.missing() {
-        missing if missing.is_empty() => Ok(()),
-        missing => Err(format!("these never came up: {}", missing.join(", "))),
+    let missing = if exports { tally.missing() } else { tally.through.missing() };
+    match missing.is_empty() {
+        true => Ok(()),
+        false => Err(format!("these never came up: {}", missing.join(", "))),
     }
 }
 
 fn usage() -> ExitCode {
-    eprintln!("usage: differential RUNS [SEED] [--tally]");
+    eprintln!("usage: differential RUNS [SEED] [--tally] [--through=exports|pci_bios|pci_driver]");
     ExitCode::from(2)
 }

@@ -2,19 +2,23 @@
 //! data_met.rs.
 
 use crate::access::Access;
-use crate::boards::{FIRST_BASE, MASKS};
+use crate::boards::{ENTRIES, FIRST_BASE, LAST_OFFSET, MASKS, OFFSET};
 use crate::calls::{Answer, Call};
 use crate::parts::Parts;
 use exports::REGISTERS;
-use second::{KeptWindow, RECORD_LENGTH};
+use second::{KeptWindow, BASES, RECORD_LENGTH, TRAILER_LENGTH};
 use std::ops::Range;
 
 /// All that a set of runs must have met, by call.
-pub const ALL: [&str; 22] = [
+pub const ALL: [&str; 26] = [
     LAST_PLACE,
+    GREAT_SUMS[0],
+    GREAT_SUMS[1],
+    GREATEST_OFFSET,
     CONTESTED,
     TO_THE_END,
     NINETY_SIX,
+    NO_EXPONENT,
     DEVICES_PASSED,
     ANY_VENDOR,
     CLASSES_PASSED,
@@ -36,9 +40,14 @@ pub const ALL: [&str; 22] = [
 ];
 
 const LAST_PLACE: &str = "a rule broken at place 15";
+/// By number: 5, 6.
+const GREAT_SUMS: [&str; 2] =
+    ["a wrong sum, the records' above 2^21", "a rule broken, the sum above 2^21"];
+const GREATEST_OFFSET: &str = "a load with an offset of FFFFFFFCh";
 const CONTESTED: &str = "a contested window";
 const TO_THE_END: &str = "a window that ends at 2^32";
 const NINETY_SIX: &str = "window 95 of a list";
+const NO_EXPONENT: &str = "a listed window, its record's k outside 2..16";
 const DEVICES_PASSED: &str = "a device search that passes over matches";
 const ANY_VENDOR: &str = "vendor FFFFh that finds a function";
 const CLASSES_PASSED: &str = "a class search that passes over matches";
@@ -71,13 +80,21 @@ pub type Met = Vec<(&'static str, bool)>;
 
 /// What a call met that left these parts.
 pub fn met(call: &Call, answer: &Answer, before: &Parts, after: &Parts) -> Met {
-    let [first, start, length, _, _, contested] = answer.values;
+    let [first, start, length, handle, base, contested] = answer.values;
     match (call, answer.number) {
-        (Call::Load { .. }, _) => vec![(LAST_PLACE, first == 15)],
+        (Call::Load { image, .. }, 5 | 6) => {
+            let great = GREAT_SUMS[usize::from(answer.number == 6)];
+            vec![(LAST_PLACE, first == 15), (great, record_sum(image) > 1 << 21)]
+        }
+        (Call::Load { .. }, 0) => {
+            let mut offsets = after.records.chunks(RECORD_LENGTH).map(|record| &record[OFFSET]);
+            vec![(GREATEST_OFFSET, offsets.any(|offset| offset == LAST_OFFSET.to_be_bytes()))]
+        }
         (Call::ListWindow { n }, 0) => vec![
             (CONTESTED, contested == 1),
             (TO_THE_END, start + length == 1 << 32),
             (NINETY_SIX, *n == 95),
+            (NO_EXPONENT, exponent(before, handle, base).is_some_and(|k| !(2..=16).contains(&k))),
         ],
         (Call::FindPciDevice { id, index }, 1..) => {
             let any_vendor = id & 0xFFFF == 0xFFFF;
@@ -99,6 +116,20 @@ pub fn met(call: &Call, answer: &Answer, before: &Parts, after: &Parts) -> Met {
         (Call::WriteConfig { .. }, _) => vec![(LIST_STAYS_REFUSED, is_altered(before))],
         _ => Met::new(),
     }
+}
+
+/// k of a handle's base register in the records, where there is one.
+fn exponent(parts: &Parts, handle: u64, base: u64) -> Option<u8> {
+    let record = parts.records.chunks(RECORD_LENGTH).nth((handle as usize).wrapping_sub(1))?;
+    ((base as usize) < BASES).then(|| record[ENTRIES + 4 * base as usize])
+}
+
+/// The sum of the records of an image whose distance is right.
+fn record_sum(image: &[u8]) -> u32 {
+    let (before, trailer) = image.split_at(image.len() - TRAILER_LENGTH);
+    let count = usize::from(trailer[5]);
+    let records = &before[before.len() - RECORD_LENGTH * count..];
+    records.iter().map(|&byte| u32::from(byte)).sum()
 }
 
 /// A bit that makes a byte ignored matters where the answer without it is another.
@@ -172,8 +203,9 @@ fn addressed(access: Access) -> Range<usize> {
 #[cfg(test)]
 mod tests {
     use super::*;
+    use crate::boards::great_sum;
     use crate::model::Second;
-    use second::board_b1::b1_image;
+    use second::board_b1::{b1_image, image_of, plain_record};
 
     fn met_by(second: &mut Second, call: Call) -> Vec<&'static str> {
         let before = second.parts.clone();
@@ -186,6 +218,23 @@ mod tests {
         let mut second = Second::new(vec![0; 4096]);
         assert!(met_by(&mut second, Call::Load { image: b1_image(), lent: 4096 }).is_empty());
         second
+    }
+
+    #[test]
+    fn images() {
+        let mut second = Second::new(vec![0; 4096]);
+        let mut load = |records: &[_], wrong: u8| {
+            let mut image = image_of(records);
+            *image.last_mut().unwrap() ^= wrong;
+            met_by(&mut second, Call::Load { image, lent: 4096 })
+        };
+        assert_eq!(load(&great_sum(4), 0), [GREAT_SUMS[1]]);
+        assert_eq!(load(&great_sum(4), 1), [GREAT_SUMS[0]]);
+        assert!(load(&great_sum(5), 0).is_empty());
+        let mut record = plain_record();
+        record[OFFSET].copy_from_slice(&LAST_OFFSET.to_be_bytes());
+        assert_eq!(load(&[plain_record(), record], 0), [GREATEST_OFFSET]);
+        assert!(load(&[plain_record()], 0).is_empty());
     }
 
     fn write(handle: u32, register: u8, value: u32) -> Call {
@@ -211,6 +260,18 @@ mod tests {
         assert_eq!(met_by(&mut b1, write(1, 0x08, 0x1180_0000)), [LIST_STAYS]);
         assert_eq!(met_by(&mut b1, write(1, 0x04, 3)), [LIST_AFRESH]);
         assert!(met_by(&mut b1, write(1, 0x04, 3)).is_empty());
+    }
+
+    #[test]
+    fn listings() {
+        let mut b1 = fresh_b1();
+        let list = |n| Call::ListWindow { n };
+        assert!(met_by(&mut b1, list(2)).is_empty());
+        b1.parts.records[RECORD_LENGTH + ENTRIES + 4] = 0;
+        assert_eq!(met_by(&mut b1, list(2)), [NO_EXPONENT]);
+        assert!(met_by(&mut b1, list(1)).is_empty());
+        b1.parts.windows[1] |= 6 << 18 | 1;
+        assert_eq!(met_by(&mut b1, list(1)), [CONTESTED]);
     }
 
     /// P1, P3, P4 and a class whose ignored bytes are its own.

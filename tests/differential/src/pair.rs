@@ -3,22 +3,22 @@
 
 use crate::calls::{Answer, Call};
 use crate::chain_history::History;
+use crate::layer::{Layer, Through};
 use crate::model::Second;
 use crate::parts::{first_difference, Parts};
-use crate::proved::Proved;
 use crate::tally::Tally;
 
 pub struct Pair {
-    proved: Proved,
+    proved: Layer,
     second: Second,
     history: History,
 }
 
 impl Pair {
     /// The board before the first load, with a cell buffer of these contents.
-    pub fn new(cells: Vec<u8>) -> Self {
+    pub fn new(through: Through, cells: Vec<u8>) -> Self {
         let second = Second::new(cells);
-        let proved = Proved::new(&second.parts, &second.cells);
+        let proved = Layer::new(through, &second.parts, &second.cells);
         Pair { proved, second, history: History::default() }
     }
 
@@ -34,16 +34,19 @@ impl Pair {
         &self.second.cells
     }
 
-    /// Performs a call and counts what it met; the answer is the one that both gave.
+    /// Performs a call, as it can be made, and counts what it met; the answer is the one that
+    /// both gave.
     pub fn call(&mut self, call: &Call, tally: &mut Tally) -> Result<Answer, String> {
+        let said = self.proved.said(call);
+        let call = said.as_ref();
         let before = self.second.parts.clone();
         let expected = self.second.perform(call);
         tally.count(call, &expected, &before, &self.second, &self.history);
         self.history.note(call, &expected, &self.second.parts);
-        let answer = self.proved.perform(call)?;
+        let [answer, expected] = self.proved.perform(call, expected)?;
         let difference = answer
             .first_difference(&expected)
-            .or_else(|| self.proved.parts().first_difference(&self.second.parts))
+            .or_else(|| self.proved.first_difference(&self.second.parts))
             .or_else(|| first_difference("cells", self.proved.cells(), &self.second.cells));
         difference.map_or(Ok(answer), Err)
     }
@@ -52,7 +55,7 @@ impl Pair {
     pub fn change_parts(&mut self, change: impl FnOnce(&mut Parts)) {
         change(&mut self.second.parts);
         self.history = History::default();
-        self.proved.lend(&self.second.parts);
+        self.proved.lend(&mut self.second.parts);
     }
 
     /// Gives the cell buffer of both other contents, as a caller may.

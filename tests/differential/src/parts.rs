@@ -4,6 +4,8 @@ use exports::*;
 use second::{Board, Hook, KeptWindow, Used, FUNCTIONS, RECORD_LENGTH};
 use std::fmt::LowerHex;
 
+/// In the order of `struct pci_board` of host/pci_bios.h, so that this is one.
+#[repr(C)]
 #[derive(Clone)]
 pub struct Parts {
     pub header: Header,

@@ -1,6 +1,6 @@
 //! The proved code behind its C functions. This and the same for descriptors, chains and
-//! scripts (resource_proved.rs, chain_proved.rs, script_proved.rs) is the only unsafe code
-//! of the tests.
+//! scripts (resource_proved.rs, chain_proved.rs, script_proved.rs) and for the layers in C
+//! (bios_layer.rs, driver_layer.rs, host_*.rs) is the only unsafe code of the tests.
 
 use crate::access::{Access, DataAccess};
 use crate::calls::{Answer, Call};

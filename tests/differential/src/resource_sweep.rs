@@ -34,7 +34,7 @@ struct Loaded<'a> {
 
 impl<'a> Loaded<'a> {
     fn new(image: Vec<u8>, tally: &'a mut Tally) -> Result<Self, String> {
-        let mut pair = Pair::new(vec![0; CELLS]);
+        let mut pair = Pair::new(tally.through, vec![0; CELLS]);
         let answer = pair.call(&Call::Load { image, lent: CELLS }, tally)?;
         assert_eq!(answer.number, 0, "a board of the sweep is refused");
         Ok(Loaded { pair, tally })
@@ -77,7 +77,7 @@ impl<'a> Loaded<'a> {
 /// Steps in bytes about as long as one, two and three descriptors, with every next field
 /// about 20, with and without the last mark.
 fn steps(tally: &mut Tally) -> Result<(), String> {
-    let mut pair = Pair::new(Vec::new());
+    let mut pair = Pair::new(tally.through, Vec::new());
     for length in [0, 1, 19, 20, 21, 39, 40, 41, 59, 60, 61] {
         for next in (0..=42).chain([255, 256, 0x0114, 0x7FFF, 0x8000, 0xFFFF]) {
             for flags in [0x7FFF, 0x8000] {

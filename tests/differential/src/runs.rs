@@ -40,7 +40,7 @@ impl<'a> Run<'a> {
         let mut random = Random::new(seed);
         let boards: Vec<_> = (0..3).map(|_| RandomBoard::new(&mut random)).collect();
         let length = cell_buffer_length(&mut random, boards[0].cells());
-        let pair = Pair::new(random.bytes(length));
+        let pair = Pair::new(tally.through, random.bytes(length));
         Run { random, boards, pair, written: Vec::new(), tally, calls: 0 }
     }
 

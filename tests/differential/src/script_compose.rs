@@ -132,7 +132,7 @@ fn scripted(call: Call, lent: usize) -> Call {
     }
 }
 
-fn some_width(width: u32) -> u32 {
+pub fn some_width(width: u32) -> u32 {
     match width {
         1 | 2 | 4 => width,
         _ => 1 << (width % 3),

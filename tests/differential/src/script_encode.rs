@@ -16,7 +16,7 @@ pub struct Asked {
 }
 
 /// The first four bytes of a header; then handle, a and b. What a call does not have is 0.
-type Fields = ([u8; 4], [u32; 3]);
+pub type Fields = ([u8; 4], [u32; 3]);
 
 /// The header of a call and its own buffer.
 pub fn encoded(asked: &Asked) -> Vec<u8> {
@@ -60,7 +60,7 @@ fn with_own(mut script: Vec<u8>, own: &[u8]) -> Vec<u8> {
     script
 }
 
-fn fields(call: &Call) -> Fields {
+pub fn fields(call: &Call) -> Fields {
     match *call {
         Call::Load { .. } => plain(1, [0, 0, 0]),
         Call::Reset { .. } => plain(2, [0, 0, 0]),

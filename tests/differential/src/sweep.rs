@@ -1,5 +1,7 @@
-//! Image checks of B1 with every value of every byte, window shape and trailer field.
+//! Image checks of B1 with every value of every byte, window shape and trailer field, and of
+//! boards with a great sum.
 
+use crate::boards::great_sum;
 use crate::calls::Call;
 use crate::pair::Pair;
 use crate::tally::Tally;
@@ -7,10 +9,11 @@ use second::board_b1::{b1_image, b1_records, image_of, set_window, Shape};
 use second::{RECORD_LENGTH, TRAILER_LENGTH};
 
 pub fn sweep(tally: &mut Tally) -> Result<(), String> {
-    let mut checks = Checks { pair: Pair::new(Vec::new()), tally };
+    let mut checks = Checks { pair: Pair::new(tally.through, Vec::new()), tally };
     record_bytes(&mut checks)?;
     shapes(&mut checks)?;
     trailers(&mut checks)?;
+    great_sums(&mut checks)?;
     lengths(&mut checks)
 }
 
@@ -81,6 +84,21 @@ fn with_trailer(at: usize, bytes: &[u8]) -> Vec<u8> {
     let first = image.len() - TRAILER_LENGTH + at;
     image[first..first + bytes.len()].copy_from_slice(bytes);
     image
+}
+
+/// Record sums about 2^21, in the trailer as they are and with each bit changed.
+fn great_sums(checks: &mut Checks) -> Result<(), String> {
+    for sound in 0..=5 {
+        let mut image = image_of(&great_sum(sound));
+        let at = image.len() - 4;
+        let sum = u32::from_be_bytes([0, 1, 2, 3].map(|byte| image[at + byte]));
+        for wrong in (0..32).map(|bit| 1 << bit).chain([0]) {
+            image[at..].copy_from_slice(&(sum ^ wrong).to_be_bytes());
+            let what = || format!("{sound} of 16 records sound, the others FFh, sum ^ {wrong:#x}");
+            checks.check(image.clone(), what)?;
+        }
+    }
+    Ok(())
 }
 
 /// Every length of the image, from its beginning and from its end.

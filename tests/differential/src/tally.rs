@@ -2,6 +2,7 @@
 
 use crate::calls::{Answer, Call};
 use crate::chain_history::History;
+use crate::layer::Through;
 use crate::model::Second;
 use crate::parts::Parts;
 use crate::script_met::ScriptMet;
@@ -41,6 +42,7 @@ const ANSWERS: [(&str, &[RangeInclusive<i64>]); 25] = [
 
 #[derive(Default)]
 pub struct Tally {
+    pub through: Through,
     pub calls: u64,
     pub scripts: ScriptMet,
     answers: BTreeMap<(&'static str, i64), u64>,
@@ -48,6 +50,10 @@ pub struct Tally {
 }
 
 impl Tally {
+    pub fn new(through: Through) -> Self {
+        Tally { through, ..Tally::default() }
+    }
+
     /// Counts a call with its answer, with the parts and the history before it and what it
     /// left.
     pub fn count(
@@ -69,6 +75,16 @@ impl Tally {
         };
         for (what, met) in [met, data_met, resource_met, chain_met].into_iter().flatten() {
             *self.met.entry(what).or_default() += u64::from(met);
+        }
+    }
+
+    /// What was performed, and through which functions.
+    pub fn made(&self) -> String {
+        let Tally { calls, scripts, .. } = self;
+        match self.through {
+            Through::Exports => format!("{calls} calls, {} scripts", scripts.scripts),
+            Through::Bios => format!("{calls} calls through pci_bios.h"),
+            Through::Driver => format!("{calls} calls through pci_driver.h"),
         }
     }
 

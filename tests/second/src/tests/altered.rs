@@ -3,7 +3,7 @@
 use super::{fresh_b1, listed, Numbers};
 use crate::Space::{Io, Memory};
 use crate::Width::{Byte, Long, Word};
-use crate::{Board, Hook, KeptWindow};
+use crate::{check_image, Board, Hook, KeptWindow, Verdict};
 
 #[test]
 fn altered_counts_and_lists() {
@@ -67,6 +67,33 @@ fn altered_records() {
     board.cell_offsets[96] = 65_537;
     assert_eq!(board.read_data(&cells, Io, 2, 0x104, Byte), (-7, 0));
     assert_eq!(board.reset(&mut cells), -7);
+}
+
+/// k set to 0 in the record while the kept list stands: data calls and the listing go by the
+/// list, descriptors and all that works the list out afresh by the record.
+#[test]
+fn exponent_gone_from_the_record() {
+    let (mut board, mut cells) = fresh_b1();
+    board.records[1][512] = 0;
+    let lines = listed(&board);
+    assert_eq!(lines.len(), 3);
+    assert_eq!(board.write_data(&mut cells, Memory, 2, 0x8000_0400, Long, 0x1122_3344), 0);
+    assert_eq!(board.read_data(&cells, Memory, 2, 0x8000_0400, Word), (0, 0x3344));
+    let mut out = [0xA5; 40];
+    assert_eq!(board.get_resource(2, &mut out), 0);
+    assert_eq!(out[..4], [0, 20, 0xC1, 0x02]);
+    assert_eq!(out[20..], [0xA5; 20]);
+    let mut image = [0; 1100];
+    assert_eq!(board.write_image(&mut image), 0);
+    assert_eq!(image[544 + 512], 0);
+    assert_eq!(check_image(&image, 65_536), Verdict { number: 6, place: 1 });
+    assert_eq!(listed(&board), lines);
+    let mut written = board.clone();
+    assert_eq!(written.write_config(1, 0x04, Byte, 3), 0);
+    assert_eq!(listed(&written), [&lines[0][..], &lines[2]]);
+    assert_eq!(board.reset(&mut cells[..2063]), -7);
+    assert_eq!(board.reset(&mut cells[..2064]), 0);
+    assert_eq!(listed(&board), [&lines[0][..], &lines[2]]);
 }
 
 #[test]

@@ -8,8 +8,11 @@ use Rattle.address_convert.proofs.convert.cpu_to_bus.Tie as tie
 is-handle-requires : tie.Need-is-handle-requires
 is-handle-requires c κs = search needs
 
+of-requires : tie.Need-of-requires
+of-requires c κs = search needs
+
 returns : tie.Need-returns
-returns c = rw (sym (c .before .is-handle .ensures) ∙ not-true _ (c .if1 .taken))
+returns c = rw (sym (c .before .before .is-handle .ensures) ∙ not-true _ (c .before .if1 .taken), c .of .ensures)
 
 place-requires : tie.Need-place-requires
 place-requires c κs = search needs
@@ -27,4 +30,4 @@ returns-2 c =
 pub cpu-to-bus-spec : {M : Type 1} → statement M
 cpu-to-bus-spec =
     tie.close
-    (tie.spec is-handle-requires returns place-requires offset-requires to-bus-requires returns-2)
+    (tie.spec is-handle-requires of-requires returns place-requires offset-requires to-bus-requires returns-2)

@@ -17,6 +17,9 @@ enum-known-width c = search needs
 space-from-c-requires : tie.Need-space-from-c-requires
 space-from-c-requires c κs = search needs
 
+of-requires : tie.Need-of-requires
+of-requires c κs = search needs
+
 data-address-requires : tie.Need-data-address-requires
 data-address-requires c κs = search needs
 
@@ -41,10 +44,10 @@ same-length c = search needs
 returns : tie.Need-returns
 returns c =
     let d = c .before .before .before .before in
-    let value = d .before .before .before .before .before .before .before .before .before .before .args .value in
-    of-known (λ w h r l o s p n a. cWriteData w h r l o s p n a value) (λ w. writeAt w value) (d .before .before .before .before .before .before .before .before .width-from-c .ensures)
-    (d .before .before .before .before .before .before .width .given .1) (d .before .before .before .before .space-from-c .ensures)
-    (rw (d .before .before .before .data-address .ensures) at (d .before .before .find-window .ensures)) (d .before .place-of-handle .ensures) (d .cell-target-of .ensures) (c .before .before .write-at .ensures) refl
+    let value = d .before .before .before .before .before .before .before .before .before .before .before .args .value in
+    of-known (λ w h r l o s p n a. cWriteData w h r l o s p n a value) (λ w. writeAt w value) (d .before .before .before .before .before .before .before .before .before .width-from-c .ensures)
+    (d .before .before .before .before .before .before .before .width .given .1) (d .before .before .before .before .before .space-from-c .ensures)
+    (rw (d .before .before .before .data-address .ensures, d .before .before .before .before .of .ensures) at (d .before .before .find-window .ensures)) (d .before .place-of-handle .ensures) (d .cell-target-of .ensures) (c .before .before .write-at .ensures) refl
 
 returns-2 : tie.Need-returns-2
 returns-2 c = rw (sym (c .before .before .width-from-c .ensures) ∙ c .enum-told .given .1)
@@ -56,6 +59,7 @@ c-write-data-spec =
     width-from-c-requires
     enum-known-width
     space-from-c-requires
+    of-requires
     data-address-requires
     find-window-requires
     place-of-handle-requires

@@ -3,6 +3,7 @@ use Prim.Native.Nat.{_-_}
 use mathlib.Core.Path.{_≡_, refl, sym, _∙_}
 use lib.ListN.{length, getD, drop}
 use Rattle.board.specs.Layout.{widths}
+use Rattle.board.proofs.Handles.{place-below}
 use Rattle.numbers.specs.Numbers.{bytes}
 use Rattle.window.specs.Kept.{unpack, unpacked}
 use Rattle.board.specs.Spaces.{spaceNumber}
@@ -54,8 +55,9 @@ check-window-requires c κs =
 returns-2 : tie.Need-returns-2 Inv-loop μ-loop
 returns-2 c =
     let d = c .before .before .before .before in
+    let s = d .before .before .before .before .before .before in
     c .check-window .ensures
-    ∙ rw (c .before .place-of-handle .ensures (d .before .before .before .before .before .before .pre)) (sym (list-here _ _ _ _ _ (d .before .before .before .before .loop .j) (d .before .before .before .loop-test .taken) (sym (d .before .is-end .ensures) ∙ d .if1 .left) (sym (c .before .before .before .holds .ensures) ∙ c .before .before .if2 .taken)))
+    ∙ rw (c .before .place-of-handle .ensures ∙ place-below _ (s .pre) (s .fits .handle .fits)) (sym (list-here _ _ _ _ _ (d .before .before .before .before .loop .j) (d .before .before .before .loop-test .taken) (sym (d .before .is-end .ensures) ∙ d .if1 .left) (sym (c .before .before .before .holds .ensures) ∙ c .before .before .if2 .taken)))
     ∙ d .before .before .before .before .loop .inv
 
 add-j : tie.Need-add-j Inv-loop μ-loop

@@ -32,9 +32,10 @@ returns-2 c =
     let d = c .before .before .before in
     let a = d .before .before .args in
     let e = d .sum-of .ensures ∙ sum-whole (a .records .now) (omega (arith, d .before .before .pre .1)) in
+    let s = d .sum-of .result in
     simp (
       ← e,
-      eq-eqb (d .sum-of .result) (a .said) (omega arith),
+      eq-eqb s (a .said) (omega arith),
       ← c .before .first-bad .ensures,
       lt-ltb (c .before .first-bad .result) (a .count) (omega arith),
     )

@@ -1,0 +1,2 @@
+-- The rows.
+pub mod Rows

@@ -1,0 +1,82 @@
+-- Rows with literal numbers of document 01, "Registers", "Windows" and "Numbers handed back": bytes
+-- written through their masks, the checks, and the writes after which the window list is worked out
+-- anew.
+use Prim.Native.Nat.{ℕ}
+use mathlib.Core.Bool.{true, false}
+use mathlib.Core.List.{List, [], _∷_, _++_, map}
+use mathlib.Core.Path.{_≡_}
+use lib.IntN.{pos}
+use lib.ListN.{replicate}
+use Rattle.board.specs.Statuses.{minus}
+use Rattle.config_write.specs.Write.{
+  written,
+  movesWindows,
+  ConfigWritten,
+  configWritten,
+  writeConfig,
+}
+
+-- byte 5Ah after a write of C3h at a register, through masks 00h, FFh, 0Fh and F0h
+abbrev pub throughMasks : ℕ → List ℕ
+throughMasks register =
+    map (λ mask. written register mask 0x5A 0xC3) (0x00 ∷ 0xFF ∷ 0x0F ∷ 0xF0 ∷ [])
+
+-- boards of so many functions, of which handle 2 has four bytes from 40h on with the same masks,
+-- each byte its own; and a kept list of one number
+abbrev pub functions : ℕ → List ℕ
+functions count = count ∷ 0 ∷ 0 ∷ 0 ∷ []
+
+abbrev pub records : List ℕ
+records = replicate 864 0 ++ (0x00 ∷ 0xFF ∷ 0x0F ∷ 0xF0 ∷ [])
+
+abbrev pub registers : List ℕ → List ℕ
+registers bytes = replicate 320 0 ++ bytes
+
+abbrev pub before : List ℕ
+before = 0x11 ∷ 0x22 ∷ 0x33 ∷ 0x44 ∷ []
+
+-- a write on a board of two; the number and the four bytes that it leaves: 0 and some, or -n and
+-- the old ones
+abbrev pub write : ℕ → ℕ → ℕ → ℕ → ConfigWritten
+write w handle register value =
+    writeConfig w (functions 2) records (registers before) (7 ∷ []) handle register value
+
+abbrev pub leaves : List ℕ → ConfigWritten
+leaves bytes = configWritten (record { 0 = pos 0 }) (registers bytes) (7 ∷ [])
+
+abbrev pub refuses : ℕ → ConfigWritten
+refuses n = configWritten (minus n) (registers before) (7 ∷ [])
+
+pub record ConfigWriteRows : Type 0 where
+  -- a byte takes the written bits where its mask has 1 and keeps the rest
+  pub masked : throughMasks 0x40 ≡ 0x5A ∷ 0xC3 ∷ 0x53 ∷ 0xCA ∷ []
+  -- for every register, command and status included
+  pub command : map throughMasks (0x04 ∷ 0x05 ∷ [])
+      ≡ (0x5A ∷ 0xC3 ∷ 0x53 ∷ 0xCA ∷ []) ∷ (0x5A ∷ 0xC3 ∷ 0x53 ∷ 0xCA ∷ []) ∷ []
+  pub status : map throughMasks (0x06 ∷ 0x07 ∷ [])
+      ≡ (0x5A ∷ 0xC3 ∷ 0x53 ∷ 0xCA ∷ []) ∷ (0x5A ∷ 0xC3 ∷ 0x53 ∷ 0xCA ∷ []) ∷ []
+  -- little-endian over 1, 2 or 4 bytes, each addressed byte through its own mask
+  pub byte : write 1 2 0x41 0xC3 ≡ leaves (0x11 ∷ 0xC3 ∷ 0x33 ∷ 0x44 ∷ [])
+  pub word : write 2 2 0x42 0xA1B2 ≡ leaves (0x11 ∷ 0x22 ∷ 0x32 ∷ 0xA4 ∷ [])
+  pub longword : write 4 2 0x40 0xA1B2C3D4 ≡ leaves (0x11 ∷ 0xC3 ∷ 0x32 ∷ 0xA4 ∷ [])
+  -- a write to read-only bits succeeds
+  pub readOnly : write 1 2 0x40 0xFF ≡ leaves (0x11 ∷ 0x22 ∷ 0x33 ∷ 0x44 ∷ [])
+  -- the order of checks: -9, then -5; nothing is written
+  pub badHandle : writeConfig 4 (functions 1) records (registers before) (7 ∷ []) 2 0x40 0xA1B2C3D4
+      ≡ refuses 9
+  pub badHandleFirst : map (λ handle. write 2 handle 0x41 0xFFFF) (0 ∷ 2 ∷ 3 ∷ [])
+      ≡ refuses 9 ∷ refuses 5 ∷ refuses 9 ∷ []
+  pub notMultiple : map (λ register. write 4 2 register 0xFFFFFFFF) (0x41 ∷ 0x42 ∷ 0x43 ∷ [])
+      ≡ refuses 5 ∷ refuses 5 ∷ refuses 5 ∷ []
+  -- the list depends on the command byte 04h
+  pub commandBytes : map (movesWindows 1) (0x03 ∷ 0x04 ∷ 0x05 ∷ []) ≡ false ∷ true ∷ false ∷ []
+  pub commandWords : map (movesWindows 2) (0x02 ∷ 0x04 ∷ 0x06 ∷ []) ≡ false ∷ true ∷ false ∷ []
+  pub commandLongwords : map (movesWindows 4) (0x00 ∷ 0x04 ∷ 0x08 ∷ [])
+      ≡ false ∷ true ∷ false ∷ []
+  -- and on the base registers 10h-27h
+  pub baseBytes : map (movesWindows 1) (0x0F ∷ 0x10 ∷ 0x27 ∷ 0x28 ∷ [])
+      ≡ false ∷ true ∷ true ∷ false ∷ []
+  pub baseWords : map (movesWindows 2) (0x0E ∷ 0x10 ∷ 0x26 ∷ 0x28 ∷ [])
+      ≡ false ∷ true ∷ true ∷ false ∷ []
+  pub baseLongwords : map (movesWindows 4) (0x0C ∷ 0x10 ∷ 0x24 ∷ 0x28 ∷ [])
+      ≡ false ∷ true ∷ true ∷ false ∷ []

@@ -1,0 +1,193 @@
+-- Rows with literal numbers of document 01, "Numbers handed back" and "Data and byte order": data
+-- calls of one small board, accepted and refused, and those of C with a width that is none.
+use Prim.Native.Nat.{ℕ}
+use mathlib.Core.Bool.{Bool, true, false}
+use mathlib.Core.List.{List, [], _∷_, _++_, map}
+use mathlib.Core.Path.{_≡_}
+use lib.IntN.{ℤ, pos, negℤ}
+use lib.ListN.{replicate}
+use Rattle.board.specs.FromC.{widthFromC}
+use Rattle.board.specs.declared.read.Read.{Read}
+use Rattle.board.specs.declared.read.FastRead.{FastRead}
+use Rattle.window.specs.Kept.{pack}
+use Rattle.window.specs.Window.{Window}
+use Rattle.data_access.specs.Data.{DataWritten, readData, fastReadData, writeData}
+use Rattle.data_access.specs.CCalls.{cReadData, cFastReadData, cWriteData}
+
+-- answers with their numbers
+abbrev pub read : ℤ → ℕ → Read
+read status value = record { status = record { 0 = status }; value = value }
+
+abbrev pub fastRead : ℕ → Bool → FastRead
+fastRead value fault = record { value = value; fault = fault }
+
+abbrev pub written : ℤ → List ℕ → DataWritten
+written status cells = record { status = record { 0 = status }; cells = cells }
+
+-- a board of one function with memory windows of 16 cells each: base register 0 in order 1 and 1 in
+-- order 2, with all widths, 2 contested, 3 for bytes alone
+abbrev pub header : List ℕ
+header = 1 ∷ 0 ∷ 0 ∷ 0 ∷ []
+
+abbrev pub records : List ℕ
+records =
+    replicate 512 0
+    ++ (4 ∷ 1 ∷ 7 ∷ 0 ∷ 4 ∷ 2 ∷ 7 ∷ 0 ∷ 4 ∷ 0 ∷ 7 ∷ 0 ∷ 4 ∷ 0 ∷ 1 ∷ 0 ∷ replicate 16 0)
+
+abbrev pub window : ℕ → ℕ → Bool → Window
+window start base contested =
+    record {
+      space = 0;
+      start = start;
+      length = 16;
+      handle = 1;
+      base = base;
+      contested = contested;
+    }
+
+abbrev pub windows : List ℕ
+windows =
+    map pack
+    (window 0x80000000 0 false
+    ∷ window 0x88000000 1 false
+    ∷ window 0x90000000 2 true
+    ∷ window 0xA0000000 3 false
+    ∷ [])
+
+abbrev pub offsets : List ℕ
+offsets = 0 ∷ 16 ∷ 32 ∷ 48 ∷ replicate 93 64
+
+-- the first cells of the first window and of the second, and so many more
+abbrev pub cellsOf : List ℕ → List ℕ → ℕ → List ℕ
+cellsOf first second more = first ++ (replicate 12 0 ++ (second ++ replicate more 0))
+
+-- those of P13 in both
+abbrev pub p13 : List ℕ
+p13 = 0x11 ∷ 0x22 ∷ 0x33 ∷ 0x44 ∷ []
+
+abbrev pub cells : ℕ → List ℕ
+cells more = cellsOf p13 p13 more
+
+-- an access: its width, handle and address, and the cells lent
+pub record Access : Type 0 where
+  pub width : ℕ
+  pub handle : ℕ
+  pub address : ℕ
+  pub lent : ℕ
+
+abbrev pub access : ℕ → ℕ → ℕ → ℕ → Access
+access width handle address lent =
+    record { width = width; handle = handle; address = address; lent = lent }
+
+abbrev pub plain : Access → Read
+plain a =
+    readData (a .width) header records windows offsets (cells (a .lent)) 0 (a .handle) (a .address)
+
+abbrev pub fast : Access → FastRead
+fast a =
+    fastReadData (a .width) header records windows offsets (cells (a .lent)) 0 (a .handle)
+    (a .address)
+
+-- writes of 89ABCDEFh
+abbrev pub write : Access → DataWritten
+write a =
+    writeData (a .width) header records windows offsets (cells (a .lent)) 0 (a .handle) (a .address)
+    0x89ABCDEF
+
+-- the first byte, word and longword of the first window, and of the second
+abbrev pub accepted : List Access
+accepted = map (λ w. access w 1 0x80000000 44) (1 ∷ 2 ∷ 4 ∷ [])
+
+abbrev pub acceptedSecond : List Access
+acceptedSecond = map (λ w. access w 1 0x88000000 44) (1 ∷ 2 ∷ 4 ∷ [])
+
+-- refused for the handle, the cells, the alignment, no window, a contested one, the width
+abbrev pub refused : List Access
+refused =
+    access 1 2 0x80000000 44
+    ∷ access 2 1 0x80000000 43
+    ∷ access 4 1 0x80000002 44
+    ∷ access 1 1 0x80000010 44
+    ∷ access 2 1 0x90000000 44
+    ∷ access 4 1 0xA0000000 44
+    ∷ []
+
+-- calls of C by their width, with a handle and the cells of this board
+abbrev pub cPlain : ℕ → ℕ → Read
+cPlain handle width =
+    cReadData (widthFromC width) header records windows offsets (cells 44) 0 handle 0x80000000
+
+abbrev pub cFast : ℕ → ℕ → FastRead
+cFast handle width =
+    cFastReadData (widthFromC width) header records windows offsets (cells 44) 0 handle 0x80000000
+
+abbrev pub cWrite : ℕ → ℕ → DataWritten
+cWrite handle width =
+    cWriteData (widthFromC width) header records windows offsets (cells 44) 0 handle 0x80000000
+    0x89ABCDEF
+
+pub record DataAccessRows : Type 0 where
+  -- in order 1 (P13)
+  pub readAccepted : map plain accepted
+      ≡ read (pos 0) 0x44 ∷ read (pos 0) 0x3344 ∷ read (pos 0) 0x11223344 ∷ []
+  -- an accepted fast read equals the plain read
+  pub fastAccepted : map fast accepted
+      ≡ fastRead 0x44 false ∷ fastRead 0x3344 false ∷ fastRead 0x11223344 false ∷ []
+  pub writeAccepted : map write accepted
+      ≡ written (pos 0) (cellsOf (0x11 ∷ 0x22 ∷ 0x33 ∷ 0xEF ∷ []) p13 44)
+      ∷ written (pos 0) (cellsOf (0x11 ∷ 0x22 ∷ 0xCD ∷ 0xEF ∷ []) p13 44)
+      ∷ written (pos 0) (cellsOf (0x89 ∷ 0xAB ∷ 0xCD ∷ 0xEF ∷ []) p13 44)
+      ∷ []
+  -- in order 2 (P13)
+  pub readReversed : map plain acceptedSecond
+      ≡ read (pos 0) 0x11 ∷ read (pos 0) 0x2211 ∷ read (pos 0) 0x44332211 ∷ []
+  pub fastReversed : map fast acceptedSecond
+      ≡ fastRead 0x11 false ∷ fastRead 0x2211 false ∷ fastRead 0x44332211 false ∷ []
+  pub writeReversed : map write acceptedSecond
+      ≡ written (pos 0) (cellsOf p13 (0xEF ∷ 0x22 ∷ 0x33 ∷ 0x44 ∷ []) 44)
+      ∷ written (pos 0) (cellsOf p13 (0xEF ∷ 0xCD ∷ 0x33 ∷ 0x44 ∷ []) 44)
+      ∷ written (pos 0) (cellsOf p13 (0xEF ∷ 0xCD ∷ 0xAB ∷ 0x89 ∷ []) 44)
+      ∷ []
+  -- a refused read returns 0
+  pub readRefused : map plain refused
+      ≡ read (negℤ (pos 9)) 0
+      ∷ read (negℤ (pos 7)) 0
+      ∷ read (negℤ (pos 8)) 0
+      ∷ read (negℤ (pos 8)) 0
+      ∷ read (negℤ (pos 8)) 0
+      ∷ read (negℤ (pos 2)) 0
+      ∷ []
+  -- a refused fast read returns all ones of its width and a set fault flag
+  pub fastRefused : map fast refused
+      ≡ fastRead 0xFF true
+      ∷ fastRead 0xFFFF true
+      ∷ fastRead 0xFFFFFFFF true
+      ∷ fastRead 0xFF true
+      ∷ fastRead 0xFFFF true
+      ∷ fastRead 0xFFFFFFFF true
+      ∷ []
+  -- a refused write changes nothing
+  pub writeRefused : map write refused
+      ≡ written (negℤ (pos 9)) (cells 44)
+      ∷ written (negℤ (pos 7)) (cells 43)
+      ∷ written (negℤ (pos 8)) (cells 44)
+      ∷ written (negℤ (pos 8)) (cells 44)
+      ∷ written (negℤ (pos 8)) (cells 44)
+      ∷ written (negℤ (pos 2)) (cells 44)
+      ∷ []
+  -- C's widths are 1, 2 and 4
+  pub cKnown : map (cPlain 1) (1 ∷ 2 ∷ 4 ∷ []) ≡ map plain accepted
+  pub cFastKnown : map (cFast 1) (1 ∷ 2 ∷ 4 ∷ []) ≡ map fast accepted
+  pub cWriteKnown : map (cWrite 1) (1 ∷ 2 ∷ 4 ∷ []) ≡ map write accepted
+  -- any other is -8 before all else, also with a bad handle, which is -9 otherwise
+  pub cOther : map (cPlain 1) (3 ∷ 0 ∷ 8 ∷ []) ≡ replicate 3 (read (negℤ (pos 8)) 0)
+  pub cOtherBad : map (cPlain 2) (3 ∷ 0 ∷ 8 ∷ 1 ∷ [])
+      ≡ replicate 3 (read (negℤ (pos 8)) 0) ++ (read (negℤ (pos 9)) 0 ∷ [])
+  pub cFastOther : map (cFast 1) (3 ∷ 0 ∷ 8 ∷ []) ≡ replicate 3 (fastRead 0xFFFFFFFF true)
+  pub cFastOtherBad : map (cFast 2) (3 ∷ 0 ∷ 8 ∷ 1 ∷ [])
+      ≡ replicate 3 (fastRead 0xFFFFFFFF true) ++ (fastRead 0xFF true ∷ [])
+  pub cWriteOther : map (cWrite 1) (3 ∷ 0 ∷ 8 ∷ [])
+      ≡ replicate 3 (written (negℤ (pos 8)) (cells 44))
+  pub cWriteOtherBad : map (cWrite 2) (3 ∷ 0 ∷ 8 ∷ 1 ∷ [])
+      ≡ replicate 3 (written (negℤ (pos 8)) (cells 44))
+      ++ (written (negℤ (pos 9)) (cells 44) ∷ [])

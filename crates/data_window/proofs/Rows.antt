@@ -1,0 +1,32 @@
+-- The rows of the search for a window, worked out.
+use mathlib.Core.Path.{refl}
+use Rattle.window.specs.Kept.{pack, unpacked}
+use Rattle.data_window.specs.Find.{inList, find}
+use Rattle.data_window.specs.Rows.{DataWindowRows}
+
+pub data-window-rows : DataWindowRows
+unfolding inList find pack unpacked
+data-window-rows =
+    record {
+      bit0 = refl;
+      bit1 = refl;
+      bit2 = refl;
+      bytesHeld = refl;
+      longwordsHeld = refl;
+      otherHandle = refl;
+      otherSpace = refl;
+      lastAddresses = refl;
+      sixBases = refl;
+      numbers = refl;
+      handleAlone = refl;
+      cellsAlone = refl;
+      othersAlone = refl;
+      handleAndCells = refl;
+      handleFirst = refl;
+      cellsFirst = refl;
+      alignmentFirst = refl;
+      markFirst = refl;
+      handles = refl;
+      rooms = refl;
+      ownWidths = refl;
+    }

@@ -1,0 +1,134 @@
+-- Rows with literal numbers of document 01, "Numbers handed back", "Windows" and "Board image": the
+-- widths that a window offers, which window holds an address, each refusal of a data access by
+-- itself and each two of them at once.
+use Prim.Native.Nat.{ℕ}
+use mathlib.Core.Bool.{Bool, true, false}
+use mathlib.Core.List.{List, [], _∷_, _++_, map}
+use mathlib.Core.Path.{_≡_}
+use lib.ListN.{getD, replicate}
+use Rattle.board.specs.Statuses.{minus}
+use Rattle.window.specs.Kept.{pack}
+use Rattle.window.specs.Window.{Window}
+use Rattle.data_window.specs.declared.find.Finding.{Finding}
+use Rattle.data_window.specs.declared.find.Finding.the-variants.{Found, Refused}
+use Rattle.data_window.specs.declared.refusal.DataRefusal.the-variants.{
+  BadHandle,
+  ShortCells,
+  NotAligned,
+  Nothing,
+  Contested,
+  WidthMissing,
+  PastBuffer,
+}
+use Rattle.data_window.specs.Find.{offers, find, statusOf, findIn}
+
+-- one width, two, three, none, and a bit that plays no part, alone and beside bit 2
+abbrev pub someWidths : List ℕ
+someWidths = 1 ∷ 2 ∷ 4 ∷ 3 ∷ 6 ∷ 7 ∷ 0 ∷ 8 ∷ 12 ∷ []
+
+abbrev pub window : ℕ → ℕ → ℕ → ℕ → ℕ → Bool → Window
+window space start length handle base contested =
+    record {
+      space = space;
+      start = start;
+      length = length;
+      handle = handle;
+      base = base;
+      contested = contested;
+    }
+
+-- memory windows of handles 1 and 2, of which two are at one place and one ends at 2^32, and an I/O
+-- window of handle 2
+abbrev pub list : List Window
+list =
+    window 0 0x80000000 0x400 1 0 false
+    ∷ window 0 0x80000400 0x400 2 0 false
+    ∷ window 0 0x90000000 0x100 1 1 true
+    ∷ window 0 0x90000000 0x100 2 2 true
+    ∷ window 0 0xFFFFFF00 0x100 1 2 false
+    ∷ window 1 0x100 0x10 2 1 false
+    ∷ []
+
+-- what is found there, where base registers 0 and 2 of both offer all widths and 1 bytes alone
+abbrev pub checked : Bool → Bool → ℕ → ℕ → ℕ → ℕ → Finding
+checked good short space w handle address =
+    find good short (λ b. offers w (getD (7 ∷ 1 ∷ 7 ∷ []) b 0)) list space w handle address
+
+-- with a good handle and cells that are long enough
+abbrev pub sought : ℕ → ℕ → ℕ → ℕ → Finding
+sought space w handle address = checked true false space w handle address
+
+-- an access refused alone for its alignment, its window, the mark there, the width there
+abbrev pub refusedAlone : Bool → Bool → List Finding
+refusedAlone good short =
+    checked good short 0 4 1 0x80000002
+    ∷ checked good short 0 4 1 0x80000400
+    ∷ checked good short 0 1 1 0x90000000
+    ∷ checked good short 1 2 2 0x100
+    ∷ []
+
+-- the same windows as the lent parts have them: 2 functions, 2,832 cells; base register 0 of the
+-- first function offers all widths, of the second words and longwords
+abbrev pub recordOf : ℕ → List ℕ
+recordOf widths0 = replicate 512 0 ++ (10 ∷ 0 ∷ widths0 ∷ 0 ∷ replicate 28 0)
+
+abbrev pub foundIn : ℕ → ℕ → ℕ → ℕ → Finding
+foundIn w room handle address =
+    findIn w (2 ∷ 0 ∷ 0 ∷ 0 ∷ []) (recordOf 7 ++ recordOf 6) (map pack list)
+    (replicate 96 0 ++ 2832 ∷ []) room 0 handle address
+
+pub record DataWindowRows : Type 0 where
+  -- bit 0: 8, bit 1: 16, bit 2: 32 bits
+  pub bit0 : map (offers 1) someWidths
+      ≡ true ∷ false ∷ false ∷ true ∷ false ∷ true ∷ false ∷ false ∷ false ∷ []
+  pub bit1 : map (offers 2) someWidths
+      ≡ false ∷ true ∷ false ∷ true ∷ true ∷ true ∷ false ∷ false ∷ false ∷ []
+  pub bit2 : map (offers 4) someWidths
+      ≡ false ∷ false ∷ true ∷ false ∷ true ∷ true ∷ false ∷ false ∷ true ∷ []
+  -- the address before a window, its first, its last, and one past; so too of longwords (P9, P10)
+  pub bytesHeld : map (sought 0 1 1) (0x7FFFFFFF ∷ 0x80000000 ∷ 0x800003FF ∷ 0x80000400 ∷ [])
+      ≡ Refused Nothing ∷ Found 0 0 0x400 ∷ Found 0 0x3FF 1 ∷ Refused Nothing ∷ []
+  pub longwordsHeld : map (sought 0 4 1) (0x7FFFFFFC ∷ 0x80000000 ∷ 0x800003FC ∷ 0x80000400 ∷ [])
+      ≡ Refused Nothing ∷ Found 0 0 0x400 ∷ Found 0 0x3FC 4 ∷ Refused Nothing ∷ []
+  -- another handle's window does not count
+  pub otherHandle : map (λ handle. sought 0 4 handle 0x80000400) (1 ∷ 2 ∷ [])
+      ≡ Refused Nothing ∷ Found 0 0 0x400 ∷ []
+  -- nor does a window in the other space
+  pub otherSpace : map (λ space. sought space 1 2 0x10F) (0 ∷ 1 ∷ [])
+      ≡ Refused Nothing ∷ Found 1 0xF 1 ∷ []
+  -- a window's end may be 2^32
+  pub lastAddresses : map (sought 0 1 1) (0xFFFFFEFF ∷ 0xFFFFFF00 ∷ 0xFFFFFFFF ∷ 0 ∷ [])
+      ≡ Refused Nothing ∷ Found 2 0 0x100 ∷ Found 2 0xFF 1 ∷ Refused Nothing ∷ []
+  -- a function has six base registers
+  pub sixBases :
+      map (λ b. find true false (λ c. true) (window 0 0x100 0x10 1 b false ∷ []) 0 1 1 0x100)
+      (5 ∷ 6 ∷ [])
+      ≡ Found 5 0 0x10 ∷ Refused Nothing ∷ []
+  -- the number of each refusal, in the order of the checks; a cell past the buffer answers -7
+  pub numbers :
+      map statusOf
+      (BadHandle ∷ ShortCells ∷ NotAligned ∷ Nothing ∷ Contested ∷ WidthMissing ∷ PastBuffer ∷ [])
+      ≡ minus 9 ∷ minus 7 ∷ minus 8 ∷ minus 8 ∷ minus 8 ∷ minus 2 ∷ minus 7 ∷ []
+  -- each check fails by itself
+  pub handleAlone : checked false false 0 4 1 0x80000000 ≡ Refused BadHandle
+  pub cellsAlone : checked true true 0 4 1 0x80000000 ≡ Refused ShortCells
+  pub othersAlone : refusedAlone true false
+      ≡ Refused NotAligned ∷ Refused Nothing ∷ Refused Contested ∷ Refused WidthMissing ∷ []
+  -- of two that fail at once the first is told: the handle before the cells and all others
+  pub handleAndCells : checked false true 0 4 1 0x80000000 ≡ Refused BadHandle
+  pub handleFirst : refusedAlone false false ≡ replicate 4 (Refused BadHandle)
+  -- the cells before the alignment, the window, the mark and the width
+  pub cellsFirst : refusedAlone true true ≡ replicate 4 (Refused ShortCells)
+  -- the alignment before the window, the mark and the width
+  pub alignmentFirst : sought 0 4 1 0x80000402 ∷ sought 0 2 2 0x90000001 ∷ sought 1 2 2 0x101 ∷ []
+      ≡ replicate 3 (Refused NotAligned)
+  -- the mark before the width
+  pub markFirst : sought 0 2 1 0x90000000 ≡ Refused Contested
+  -- of the lent parts: handles are 1 to the count; cells may not be shorter than the total; the
+  -- widths are those of the function's own record
+  pub handles : map (λ handle. foundIn 4 2832 handle 0x80000000) (0 ∷ 1 ∷ 2 ∷ 3 ∷ [])
+      ≡ Refused BadHandle ∷ Found 0 0 0x400 ∷ Refused Nothing ∷ Refused BadHandle ∷ []
+  pub rooms : map (λ room. foundIn 4 room 1 0x80000000) (2831 ∷ 2832 ∷ 2833 ∷ [])
+      ≡ Refused ShortCells ∷ Found 0 0 0x400 ∷ Found 0 0 0x400 ∷ []
+  pub ownWidths : map (λ w. foundIn w 2832 2 0x80000400) (1 ∷ 2 ∷ 4 ∷ [])
+      ≡ Refused WidthMissing ∷ Found 0 0 0x400 ∷ Found 0 0 0x400 ∷ []

@@ -1,0 +1,2 @@
+-- The proof of the rows.
+pub mod Rows
