@@ -1,4 +1,5 @@
--- The proofs of the cases and of what refuses each idle bus.
+-- The proofs of the cases, of what refuses each idle bus, and of the second table.
 pub mod Cases
 pub mod Idle
 pub mod Rows
+pub mod SecondTable

@@ -1,6 +1,7 @@
--- Board B1, its proved cases, and the idle buses that they refuse.
+-- Board B1, its proved cases, and the idle buses that they refuse; the second table.
 pub mod B1
 pub mod Cases
 pub mod Idle
 pub mod SmallBoard
 pub mod Rows
+pub mod SecondTable

@@ -1,7 +1,6 @@
--- The second table: rows beside P1 to P14, for what document 01's cases leave open, under one
--- sentence. Rules on plain values have their rows in their own crates, where an edit of the rule
--- meets them; here are calls from a fresh board, and the sentence that holds all of them together.
--- Every number handed back is written as document 01 has it, and not by its name.
+-- Rows of calls from a fresh board, for what P1 to P14 leave open. They are a part of the second
+-- table (SecondTable.antt). Every number handed back is written as document 01 has it, and not by
+-- its name.
 use Prim.Native.Nat.{ℕ}
 use mathlib.Core.Bool.{Bool, true, false}
 use mathlib.Core.List.{List, [], _∷_, _++_, map}

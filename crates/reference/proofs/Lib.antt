@@ -30,3 +30,4 @@ pub mod Quiet
 pub mod Seen
 pub mod NonInterference
 pub mod Demand3
+pub mod CallLaws

@@ -3,3 +3,4 @@ pub mod State
 pub mod Reference
 pub mod Run
 pub mod Claims
+pub mod CallLaws
