@@ -19,11 +19,11 @@ use Rattle.data_window.specs.declared.refusal.DataRefusal.{DataRefusal}
 use Rattle.data_window.specs.declared.refusal.DataRefusal.the-variants.{BadHandle, ShortCells, NotAligned, Nothing, Contested, WidthMissing, PastBuffer}
 use Rattle.data_cells.specs.declared.target.CellTarget.{CellTarget}
 use Rattle.data_cells.specs.declared.target.CellTarget.the-variants.{At, Refused}
-use Rattle.data_cells.specs.Cells.{cellTarget, cellsValue, cellsAfter}
+use Rattle.data_cells.specs.Cells.{cellTarget, cellsValue}
 use Rattle.data_cells.proofs.Cells.{read-back, only-its-cells}
 use Rattle.data_cells.proofs.Inside.{target-inside}
 use Rattle.data_access.specs.Data.{Inside, readAt, fastReadAt, writeAt, writeData}
-use Rattle.data_access.specs.Meaning.{FastDataReadAgrees, DataReadBack, HasCell, SameReads, OtherReadsKept}
+use Rattle.data_access.specs.Meaning.{FastDataReadAgrees, DataReadBack, HasCell, OtherReadsKept}
 
 -- no refusal has the number of success
 below-zero : (n : ℕ) → minus (suc n) ≡ successful → ⊥

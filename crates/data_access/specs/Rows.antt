@@ -68,7 +68,8 @@ p13 = 0x11 ∷ 0x22 ∷ 0x33 ∷ 0x44 ∷ []
 abbrev pub cells : ℕ → List ℕ
 cells more = cellsOf p13 p13 more
 
--- an access: its width, handle and address, and the cells lent
+-- an access: its width, handle and address, and how many more cells are lent; with 44 they are the
+-- board's 64
 pub record Access : Type 0 where
   pub width : ℕ
   pub handle : ℕ
