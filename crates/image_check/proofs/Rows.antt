@@ -24,4 +24,12 @@ below image room h = rw (le-ltb 65536 (length image) h)
 pub image-check-rows : ImageCheckRows
 unfolding little big entryOk recordOk cellsBefore sum firstBad firstRefusal checked
 image-check-rows =
-    record { longer = upper-length; upTo = below; fine = refl; heavySum = refl; bad = refl }
+    record {
+      longer = upper-length;
+      upTo = below;
+      short = refl;
+      forms = refl;
+      fine = refl;
+      heavySum = refl;
+      bad = refl;
+    }

@@ -1,10 +1,10 @@
 -- Rows with literal numbers of document 01, section "Load refusals": the upper length as a law over
 -- every image, and the verdict on a few images of one and two records, given byte by byte.
 use Prim.Native.Nat.{ℕ, _<_, _≤_}
-use mathlib.Core.List.{List, [], _∷_, _++_}
+use mathlib.Core.List.{List, [], _∷_, _++_, map}
 use mathlib.Core.Path.{_≡_}
 use lib.IntN.{pos}
-use lib.ListN.{length, replicate}
+use lib.ListN.{length, drop, replicate}
 use Rattle.numbers.specs.Tables.{filledUp}
 use Rattle.image_refusals.specs.Refusals.{firstRefusal}
 use Rattle.image_refusals.specs.declared.verdict.Verdict.{Verdict}
@@ -53,6 +53,20 @@ pub record ImageCheckRows : Type 0 where
       → checked image room ≡ verdict 1 0
   pub upTo : (image : List ℕ) (room : ℕ) → length image ≤ 65536
       → checked image room ≡ firstRefusal (factsOf image) room
+  -- 1 and 4 of too few bytes
+  pub short : checked (replicate 11 0) 4 ∷ checked (drop 1 (ports ++ oneRecord 0x03 0xFD)) 4 ∷ []
+      ≡ verdict 1 0 ∷ verdict 4 0 ∷ []
+  -- 2 editions 2 and 0101h; 3 counts 0, 17 and 0101h; 4 distances 22Dh and 0100022Ch
+  pub forms : map (λ t. checked (ports ++ (t ++ (0 ∷ 0 ∷ 0x03 ∷ 0xFD ∷ []))) 4)
+      ((0 ∷ 0 ∷ 0x02 ∷ 0x2C ∷ 0 ∷ 1 ∷ 0 ∷ 2 ∷ [])
+      ∷ (0 ∷ 0 ∷ 0x02 ∷ 0x2C ∷ 0 ∷ 1 ∷ 1 ∷ 1 ∷ [])
+      ∷ (0 ∷ 0 ∷ 0x00 ∷ 0x0C ∷ 0 ∷ 0 ∷ 0 ∷ 1 ∷ [])
+      ∷ (0 ∷ 0 ∷ 0x24 ∷ 0x2C ∷ 0 ∷ 17 ∷ 0 ∷ 1 ∷ [])
+      ∷ (0 ∷ 0 ∷ 0x02 ∷ 0x2C ∷ 1 ∷ 1 ∷ 0 ∷ 1 ∷ [])
+      ∷ (0 ∷ 0 ∷ 0x02 ∷ 0x2D ∷ 0 ∷ 1 ∷ 0 ∷ 1 ∷ [])
+      ∷ (1 ∷ 0 ∷ 0x02 ∷ 0x2C ∷ 0 ∷ 1 ∷ 0 ∷ 1 ∷ []) ∷ [])
+      ≡ verdict 2 0 ∷ verdict 2 0 ∷ verdict 3 0 ∷ verdict 3 0 ∷ verdict 3 0 ∷ verdict 4 0
+      ∷ verdict 4 0 ∷ []
   -- sum 03FDh, 4 cells: accepted, also after notes; 5 with a sum that is one off; 8
   pub fine : checked (ports ++ oneRecord 0x03 0xFD) 4
       ∷ checked (7 ∷ 7 ∷ ports ++ oneRecord 0x03 0xFD) 4

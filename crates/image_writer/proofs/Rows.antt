@@ -7,4 +7,10 @@ use Rattle.image_writer.specs.Rows.{ImageWriterRows}
 
 pub image-writer-rows : ImageWriterRows
 unfolding tableFrom sum writeImage
-image-writer-rows = record { emptyBoard = refl; shorter = refl; written = refl }
+image-writer-rows =
+    record {
+      emptyBoard = refl;
+      shorter = refl;
+      written = refl;
+      bothWritten = refl;
+    }

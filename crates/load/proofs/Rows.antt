@@ -1,11 +1,11 @@
 -- The rows: refused loads for every board and image, the others worked out.
-use Prim.Native.Nat.{ℕ, zero, suc, _<_}
+use Prim.Native.Nat.{ℕ, zero, suc, _<_, _≤_}
 use mathlib.Core.Bool.{Bool, true, false, cond, false≢true}
 use mathlib.Core.List.{List}
 use mathlib.Core.Path.{_≡_, refl}
 use lib.IntN.{ℤ, pos, negsuc}
 use lib.ListN.{length}
-use borrow.Author.Tests.{lt-ltb}
+use borrow.Author.Tests.{lt-ltb, le-ltb}
 use Rattle.numbers.specs.Numbers.{little, big, isZero}
 use Rattle.numbers.specs.Tables.{tableFrom}
 use Rattle.board.specs.Parts.{Parts}
@@ -18,7 +18,7 @@ use Rattle.image_refusals.specs.declared.verdict.Verdict.{Verdict}
 use Rattle.image_check.specs.Check.{checked}
 use Rattle.image_check.specs.Rows.{verdict}
 use Rattle.reset.specs.Reset.{registersOf, restarted}
-use Rattle.load.specs.Load.{loadOutcome, installed, load}
+use Rattle.load.specs.Load.{loadOutcome, installed, load, loadAnyLength}
 use Rattle.load.specs.Rows.{LoadRows}
 
 too-long : (p : Parts) (image : List ℕ) → 65536 < length image → load p image ≡ loadOutcome (verdict 1 0) p
@@ -43,6 +43,17 @@ refused-stays p image n =
     let v = checked image (length (p .cells)) in
     stays (isAccepted v) v (installed image (p .cells)) p refl n
 
+in-portions : (p : Parts) (image : List ℕ) → length image ≤ 65536 → loadAnyLength p image ≡ load p image
+unfolding checked load loadAnyLength
+in-portions p image h = rw (le-ltb 65536 (length image) h)
+
 pub load-rows : LoadRows
 unfolding little big tableFrom entryOk recordOk cellsBefore sum firstBad firstRefusal checked registersOf restarted load
-load-rows = record { loaded = refl; verdicts = refl; tooLong = too-long; refusedStays = refused-stays }
+load-rows =
+    record {
+      loaded = refl;
+      verdicts = refl;
+      tooLong = too-long;
+      refusedStays = refused-stays;
+      portions = in-portions;
+    }

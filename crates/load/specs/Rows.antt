@@ -1,13 +1,13 @@
 -- Rows with literal numbers of document 01, sections "The modelled board" and "Load refusals": what
 -- a load leaves of a board on which nothing was zero, and that a refused one leaves all.
-use Prim.Native.Nat.{ℕ, _<_}
+use Prim.Native.Nat.{ℕ, _<_, _≤_}
 use mathlib.Core.List.{List, [], _∷_, _++_, map}
 use mathlib.Core.Path.{_≡_}
 use lib.IntN.{pos}
 use lib.ListN.{length, getD, replicate}
 use Rattle.board.specs.Parts.{Parts, parts}
 use Rattle.image_check.specs.Rows.{verdict, ports, oneRecord}
-use Rattle.load.specs.Load.{loadOutcome, load}
+use Rattle.load.specs.Load.{loadOutcome, load, loadAnyLength}
 
 -- every byte and number of the board is 7, and n cells are lent
 abbrev pub board : ℕ → Parts
@@ -41,3 +41,6 @@ pub record LoadRows : Type 0 where
   -- the old board stays
   pub refusedStays : (p : Parts) (image : List ℕ)
       → (load p image .verdict .number ≡ pos 0 → ⊥) → load p image .parts ≡ p
+  -- an image that comes in portions loads as any other of so many bytes
+  pub portions : (p : Parts) (image : List ℕ) → length image ≤ 65536
+      → loadAnyLength p image ≡ load p image

@@ -9,7 +9,7 @@ use Rattle.board.specs.Parts.{Parts}
 use Rattle.numbers.specs.Numbers.{little}
 use Rattle.numbers.specs.Tables.{tableFrom}
 use Rattle.numbers.proofs.Tables.{table-length, table-get}
-use Rattle.window_list.specs.Windows.{windowAt, gather, openWindows, put, putAll, listOf}
+use Rattle.window_list.specs.Windows.{windowList, windowAt, gather, openWindows, put, putAll, listOf}
 use Rattle.window_list.specs.Kept.{keptList}
 use Rattle.reset.specs.Reset.{registersOf, restarted, reset}
 use Rattle.reset.specs.Rows.{ResetRows}
@@ -33,6 +33,11 @@ copied p i register h few b =
     ∙ table-get 0 4096 _ (256 * i + register) (omega arith)
     ∙ rw (function, byte)
 
+anew : (p : Parts) → getD (p .cellOffsets) 96 0 ≤ length (p .cells)
+    → reset p .parts .windows ≡ keptList (windowList (p .header) (p .records) (reset p .parts .registers))
+unfolding restarted reset
+anew p h = rw (le-ltb (length (p .cells)) (getD (p .cellOffsets) 96 0) h)
+
 pub reset-rows : ResetRows
 unfolding little tableFrom windowAt gather openWindows put putAll listOf keptList registersOf restarted reset
 reset-rows =
@@ -44,4 +49,5 @@ reset-rows =
       loaded = refl;
       registersRoom = room;
       registersCopied = copied;
+      windowsAnew = anew;
     }

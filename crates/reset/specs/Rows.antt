@@ -7,6 +7,8 @@ use mathlib.Core.Path.{_≡_}
 use lib.IntN.{pos, negℤ}
 use lib.ListN.{length, getD, replicate}
 use Rattle.board.specs.Parts.{Parts, parts}
+use Rattle.window_list.specs.Windows.{windowList}
+use Rattle.window_list.specs.Kept.{keptList}
 use Rattle.reset.specs.Reset.{reset}
 
 -- one function, whose windows have 4 cells together; registers, kept list, hooks, used marks and
@@ -39,3 +41,7 @@ pub record ResetRows : Type 0 where
       → getD (p .cellOffsets) 96 0 ≤ length (p .cells) → i < 16 → register < 256
       → getD (reset p .parts .registers) (256 * i + register) 0
       ≡ getD (p .records) (544 * i + register) 0
+  -- the window list is that of the new registers
+  pub windowsAnew : (p : Parts) → getD (p .cellOffsets) 96 0 ≤ length (p .cells)
+      → reset p .parts .windows
+      ≡ keptList (windowList (p .header) (p .records) (reset p .parts .registers))
