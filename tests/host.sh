@@ -1,8 +1,8 @@
 #!/bin/sh
 # Compiles what is written in C against the proved static library and runs it: the first use and the
 # incident, compared with their stored outputs, the tests of both layers and of traces, a library
-# whose board is another than the header's, and calls that are lent overlapping memory. The
-# sanitizers see the C, not the library.
+# whose board is another than the header's, what reaches the library in a special cycle, and calls
+# that are lent overlapping memory. The sanitizers see the C, not the library.
 set -eu
 cd "$(dirname "$0")/.."
 mkdir -p target/host

@@ -237,6 +237,22 @@ static void test_foreign_hooks(void) {
     GIVES(1, handle == 0 && routine == NULL && parameter == NULL);
 }
 
+/* A chain entry of a handle that no function has, with the number that this layer takes for its own
+   hooks: on an altered board alone, and listed on line 0. */
+static void test_hook_of_no_function(void) {
+    LONG one, handle = 9;
+    pci_handler *routine = first_handler;
+    void *parameter = &byte;
+    use_fresh();
+    ALTERS(0, hook_interrupt(1, first_handler, &one));
+    for (int i = 3; i < 6; i++)
+        board.hooks[i] = 17;
+    LEAVES(0, pci_list_handlers(0, 0, &handle, &routine, &parameter));
+    GIVES(17, handle);
+    GIVES(1, routine == NULL && parameter == NULL);
+    check_hook(0, 0, 1, first_handler, &one);
+}
+
 /* As many hooks as there can be, and every one of them again. */
 static void test_sixteen_hooks(void) {
     LONG parameters[17];
@@ -338,6 +354,7 @@ void test_driver(void) {
     test_resources();
     test_hooks();
     test_foreign_hooks();
+    test_hook_of_no_function();
     test_sixteen_hooks();
     test_used();
     test_foreign_callbacks();

@@ -48,6 +48,15 @@ pub enum Layer {
     Driver(DriverLayer),
 }
 
+/// What a call gave.
+pub struct Performed {
+    pub answer: Answer,
+    /// The answer that `second` gave, as it is shown here.
+    pub second: Answer,
+    /// How a recorder was told of another call or answer.
+    pub recorded: Option<String>,
+}
+
 impl Layer {
     pub fn new(through: Through, parts: &Parts, cells: &[u8]) -> Self {
         if through != Through::Exports {
@@ -70,21 +79,20 @@ impl Layer {
         said.map_or(Cow::Borrowed(call), Cow::Owned)
     }
 
-    /// Performs a call that can be made here: its answer, and the one that `second` gave as
-    /// it is shown here. What a recorder was told is compared too.
-    pub fn perform(&mut self, call: &Call, second: Answer) -> Result<[Answer; 2], String> {
-        let answer = match self {
-            Layer::Exports(proved) => return Ok([proved.perform(call)?, second]),
-            Layer::Bios(layer) => layer.perform(call)?,
-            Layer::Driver(layer) => layer.perform(call)?,
+    /// Performs a call that can be made here and that `second` gave this answer to.
+    pub fn perform(&mut self, call: &Call, second: Answer) -> Result<Performed, String> {
+        let (answer, by_driver) = match self {
+            Layer::Exports(proved) => {
+                let answer = proved.perform(call)?;
+                return Ok(Performed { answer, second, recorded: None });
+            }
+            Layer::Bios(layer) => (layer.perform(call)?, false),
+            Layer::Driver(layer) => (layer.perform(call)?, true),
         };
-        let by_driver = matches!(self, Layer::Driver(_));
         host_reached::settle(refused(call, &second));
-        if let Some(difference) = host_record::difference(call, &second, by_driver) {
-            return Err(difference);
-        }
+        let recorded = host_record::difference(call, &second, by_driver);
         let second = if by_driver { driver_layer::seen(call, second) } else { second };
-        Ok([answer, second])
+        Ok(Performed { answer, second, recorded })
     }
 
     /// The first place where the lent parts differ from `second`'s.

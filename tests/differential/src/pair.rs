@@ -3,7 +3,7 @@
 
 use crate::calls::{Answer, Call};
 use crate::chain_history::History;
-use crate::layer::{Layer, Through};
+use crate::layer::{Layer, Performed, Through};
 use crate::model::Second;
 use crate::parts::{first_difference, Parts};
 use crate::tally::Tally;
@@ -43,11 +43,12 @@ impl Pair {
         let expected = self.second.perform(call);
         tally.count(call, &expected, &before, &self.second, &self.history);
         self.history.note(call, &expected, &self.second.parts);
-        let [answer, expected] = self.proved.perform(call, expected)?;
+        let Performed { answer, second, recorded } = self.proved.perform(call, expected)?;
         let difference = answer
-            .first_difference(&expected)
+            .first_difference(&second)
             .or_else(|| self.proved.first_difference(&self.second.parts))
-            .or_else(|| first_difference("cells", self.proved.cells(), &self.second.cells));
+            .or_else(|| first_difference("cells", self.proved.cells(), &self.second.cells))
+            .or(recorded);
         difference.map_or(Ok(answer), Err)
     }
 
