@@ -107,7 +107,7 @@ not-refused-load p image =
     ifVerdict (stated image (length (p .cells)))
     (λ e. rw e (λ f. refl))
     (λ i e. rw e (λ f. absurd (false≢true (sym f))))
-    (λ n a z e. rw e (λ f. absurd (false≢true (sym f ∙ ap not z))))
+    (λ n a z e. rw (e, z) (λ f. absurd (false≢true (sym f ∙ ap not z))))
 
 records-kept : RecordsKept
 unfolding step
