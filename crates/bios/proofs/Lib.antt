@@ -1,2 +1,3 @@
--- The laws that proofs here cite.
+-- The laws that proofs here cite, and the rows.
 pub mod Listings
+pub mod Rows

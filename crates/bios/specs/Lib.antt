@@ -1,3 +1,4 @@
--- The definitions that contracts cite.
+-- The definitions that contracts cite, and their rows.
 pub mod Exports
 pub mod Layout
+pub mod Rows
