@@ -14,10 +14,10 @@ use Rattle.address_convert.specs.declared.convert.ToCpu.{ToCpu}
 
 -- a board of two functions: offset F0000000h and dmaoffset 01000000h; offset 00000100h and
 -- dmaoffset 00020000h; all else of their records is 0
-abbrev pub twoFunctions : List ℕ
+abbrev twoFunctions : List ℕ
 twoFunctions = 2 ∷ 0 ∷ 0 ∷ 0 ∷ []
 
-abbrev pub twoOffsets : List ℕ
+abbrev twoOffsets : List ℕ
 twoOffsets =
     replicate 536 0
     ++ (0xF0 ∷ 0 ∷ 0 ∷ 0 ∷ 0x01 ∷ 0 ∷ 0 ∷ 0 ∷ [])
@@ -25,16 +25,16 @@ twoOffsets =
     ++ (0 ∷ 0 ∷ 0x01 ∷ 0 ∷ 0 ∷ 0x02 ∷ 0 ∷ 0 ∷ [])
 
 -- what is handed back: accepted, refused
-abbrev pub atCpu : ℕ → ToCpu
+abbrev atCpu : ℕ → ToCpu
 atCpu a = record { status = record { 0 = pos 0 }; address = cpu a }
 
-abbrev pub noCpu : ToCpu
+abbrev noCpu : ToCpu
 noCpu = record { status = minus 9; address = cpu 0 }
 
-abbrev pub atBus : ℕ → ToBus
+abbrev atBus : ℕ → ToBus
 atBus a = record { status = record { 0 = pos 0 }; address = bus a }
 
-abbrev pub noBus : ToBus
+abbrev noBus : ToBus
 noBus = record { status = minus 9; address = bus 0 }
 
 pub record AddressConvertRows : Type 0 where

@@ -1,6 +1,6 @@
 -- Rows with literal numbers of what C is handed: the lengths of the lent parts, flags and steps as
--- numbers, and configuration calls with a width that is none (docs/DECISIONS.md, [4]); those of data
--- calls are in the crate data_access.
+-- numbers, and configuration calls with a width that is none (docs/DECISIONS.md, [4]); those of
+-- data calls are in the crate data_access.
 use Prim.Native.Nat.{ℕ}
 use mathlib.Core.Bool.{true, false}
 use mathlib.Core.List.{List, [], _∷_, map}

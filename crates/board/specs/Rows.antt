@@ -58,26 +58,26 @@ use Rattle.board.specs.Statuses.{
 }
 
 -- a header with a count, whose other numbers would be read as other counts
-abbrev pub counting : ℕ → List ℕ
+abbrev counting : ℕ → List ℕ
 counting count = count ∷ 5 ∷ 6 ∷ 7 ∷ []
 
 -- a record: reset values 0 to 255, masks 255 to 0, six entries of 4 bytes from a number on, and
 -- after them the 4 bytes of the offset and the 4 of the dmaoffset
-abbrev pub recordFrom : ℕ → List ℕ
+abbrev recordFrom : ℕ → List ℕ
 recordFrom first =
     table 256 (λ i. i)
     ++ (table 256 (λ i. 255 - i) ++ (table 24 (λ i. first + i) ++ table 8 (λ i. first + 24 + i)))
 
 -- two records: entries 40h to 57h, offset 58h to 5Bh, dmaoffset 5Ch to 5Fh; the same from 80h on
-abbrev pub twoRecords : List ℕ
+abbrev twoRecords : List ℕ
 twoRecords = recordFrom 0x40 ++ recordFrom 0x80
 
 -- the registers of two functions: 0 to 255, and 255 to 0
-abbrev pub twoRegisters : List ℕ
+abbrev twoRegisters : List ℕ
 twoRegisters = table 256 (λ i. i) ++ table 256 (λ i. 255 - i)
 
 -- lent parts, each of a number of its own
-abbrev pub eightParts : Parts
+abbrev eightParts : Parts
 eightParts =
     parts (1 ∷ []) (2 ∷ []) (3 ∷ []) (4 ∷ [])
     (5 ∷ []) (6 ∷ []) (7 ∷ []) (8 ∷ [])

@@ -29,17 +29,17 @@ use Rattle.call.specs.Answers.{
 use Rattle.call.specs.Calls.{writes}
 
 -- an answer: number, refused or not, and the six values
-abbrev pub said : ℤ → Bool → List ℕ → Answer
+abbrev said : ℤ → Bool → List ℕ → Answer
 said number refused values = record { number = number; refused = refused; values = values }
 
 -- of a refusal with a number below 0: the flag, and zeros
-abbrev pub refusal : ℕ → Answer
+abbrev refusal : ℕ → Answer
 refusal n = said (negℤ (pos n)) true (0 ∷ 0 ∷ 0 ∷ 0 ∷ 0 ∷ 0 ∷ [])
 
-abbrev pub accepted : Status
+abbrev accepted : Status
 accepted = record { 0 = pos 0 }
 
-abbrev pub listed : Listing → Answer
+abbrev listed : Listing → Answer
 listed l = answer (listingNumber l) (listingValues l)
 
 pub record CallRows : Type 0 where

@@ -41,7 +41,7 @@ use Rattle.call_encoding.specs.declared.decode.Decoded.the-variants.{Kno
 use Rattle.call_encoding.specs.Format.{encoded, decoded, answerBytes}
 
 -- the calls by operation, no two arguments alike
-abbrev pub calls : List Call
+abbrev calls : List Call
 calls =
     Load
     ∷ Reset
@@ -69,7 +69,7 @@ calls =
     ∷ []
 
 -- operation, width, space, register or bus; handle; a; b
-abbrev pub starts : List (List ℕ)
+abbrev starts : List (List ℕ)
 starts =
     (1 ∷ 0 ∷ 0 ∷ 0 ∷ 0 ∷ 0 ∷ 0 ∷ 0 ∷ 0 ∷ 0 ∷ 0 ∷ 0 ∷ 0 ∷ 0 ∷ 0 ∷ 0 ∷ [])
     ∷ (2 ∷ 0 ∷ 0 ∷ 0 ∷ 0 ∷ 0 ∷ 0 ∷ 0 ∷ 0 ∷ 0 ∷ 0 ∷ 0 ∷ 0 ∷ 0 ∷ 0 ∷ 0 ∷ [])
@@ -97,17 +97,17 @@ starts =
     ∷ []
 
 -- a data write and a device search, whole
-abbrev pub dataWrite : List ℕ
+abbrev dataWrite : List ℕ
 dataWrite =
     11 ∷ 4 ∷ 1 ∷ 0 ∷ 1 ∷ 2 ∷ 3 ∷ 4 ∷ 5 ∷ 6 ∷ 7 ∷ 8 ∷ 9 ∷ 10 ∷ 11 ∷ 12
     ∷ replicate 44 0 ++ 14 ∷ 15 ∷ 16 ∷ 17 ∷ []
 
-abbrev pub deviceSearch : List ℕ
+abbrev deviceSearch : List ℕ
 deviceSearch =
     4 ∷ 0 ∷ 0 ∷ 0 ∷ 0 ∷ 0 ∷ 0 ∷ 0 ∷ 5 ∷ 6 ∷ 7 ∷ 8 ∷ 9 ∷ 10 ∷ 11 ∷ 12
     ∷ replicate 44 0 ++ 0 ∷ 0 ∷ 0 ∷ 0 ∷ []
 
-abbrev pub isCall : Decoded → Bool
+abbrev isCall : Decoded → Bool
 isCall (Known call own) = true
 isCall Malformed = false
 

@@ -17,24 +17,24 @@ use Rattle.card_used.specs.Used.{
 }
 
 -- boards of one function and of two; marks 1 of handle 1, and 2 with call-back C0DEh of handle 2
-abbrev pub one : List ℕ
+abbrev one : List ℕ
 one = 1 ∷ 0 ∷ 0 ∷ 0 ∷ []
 
-abbrev pub two : List ℕ
+abbrev two : List ℕ
 two = 2 ∷ 0 ∷ 0 ∷ 0 ∷ []
 
-abbrev pub before : List ℕ
+abbrev before : List ℕ
 before = 1 ∷ 0 ∷ 2 ∷ 0xC0DE ∷ []
 
 -- set used leaves 0 and marks, or -n and the old marks
-abbrev pub leaves : List ℕ → MarkOutcome
+abbrev leaves : List ℕ → MarkOutcome
 leaves marks = markOutcome (record { 0 = pos 0 }) marks
 
-abbrev pub refuses : ℕ → MarkOutcome
+abbrev refuses : ℕ → MarkOutcome
 refuses n = markOutcome (minus n) before
 
 -- get used gives a number, a status and a call-back
-abbrev pub gives : ℤ → ℕ → ℕ → CardUsed
+abbrev gives : ℤ → ℕ → ℕ → CardUsed
 gives n status callBack =
     record { status = record { 0 = n }; used = status; «call_back» = callBack }
 

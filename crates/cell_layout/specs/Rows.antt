@@ -7,11 +7,11 @@ use lib.ListN.{getD, replicate}
 use Rattle.cell_layout.specs.Cells.{cellsBefore, total, offsetsOf, zeroed}
 
 -- length exponents in a list for each function; 0 where none is given
-abbrev pub exponents : List (List ℕ) → ℕ → ℕ → ℕ
+abbrev exponents : List (List ℕ) → ℕ → ℕ → ℕ
 exponents l i b = getD (getD l i []) b 0
 
 -- k 4 and k 2 of handle 1, k 3 and k 5 of handle 2
-abbrev pub two : ℕ → ℕ → ℕ
+abbrev two : ℕ → ℕ → ℕ
 two = exponents ((4 ∷ 2 ∷ []) ∷ (3 ∷ 0 ∷ 5 ∷ []) ∷ [])
 
 pub record CellLayoutRows : Type 0 where

@@ -12,26 +12,26 @@ use Rattle.board.specs.declared.read.FastRead.{FastRead}
 use Rattle.config_read.specs.Read.{readConfig, fastReadConfig}
 
 -- a read gives 0 and a value, or is refused with -n and the value 0; a fast read has a fault flag
-abbrev pub gives : ℕ → Read
+abbrev gives : ℕ → Read
 gives value = record { status = record { 0 = pos 0 }; value = value }
 
-abbrev pub refuses : ℕ → Read
+abbrev refuses : ℕ → Read
 refuses n = record { status = minus n; value = 0 }
 
-abbrev pub givesFast : ℕ → FastRead
+abbrev givesFast : ℕ → FastRead
 givesFast value = record { value = value; fault = false }
 
-abbrev pub faults : ℕ → FastRead
+abbrev faults : ℕ → FastRead
 faults value = record { value = value; fault = true }
 
 -- boards of one function and of two; registers FCh to FFh of handle 1, then 00h to 03h of handle 2
-abbrev pub one : List ℕ
+abbrev one : List ℕ
 one = 1 ∷ 0 ∷ 0 ∷ 0 ∷ []
 
-abbrev pub two : List ℕ
+abbrev two : List ℕ
 two = 2 ∷ 0 ∷ 0 ∷ 0 ∷ []
 
-abbrev pub registers : List ℕ
+abbrev registers : List ℕ
 registers = replicate 252 0 ++ (0xA1 ∷ 0xA2 ∷ 0xA3 ∷ 0xA4 ∷ 0x11 ∷ 0x22 ∷ 0x33 ∷ 0x44 ∷ [])
 
 pub record ConfigReadRows : Type 0 where

@@ -17,34 +17,34 @@ use Rattle.config_write.specs.Write.{
 }
 
 -- byte 5Ah after a write of C3h at a register, through masks 00h, FFh, 0Fh and F0h
-abbrev pub throughMasks : ℕ → List ℕ
+abbrev throughMasks : ℕ → List ℕ
 throughMasks register =
     map (λ mask. written register mask 0x5A 0xC3) (0x00 ∷ 0xFF ∷ 0x0F ∷ 0xF0 ∷ [])
 
 -- boards of so many functions, of which handle 2 has four bytes from 40h on with the same masks,
 -- each byte its own; and a kept list of one number
-abbrev pub functions : ℕ → List ℕ
+abbrev functions : ℕ → List ℕ
 functions count = count ∷ 0 ∷ 0 ∷ 0 ∷ []
 
-abbrev pub records : List ℕ
+abbrev records : List ℕ
 records = replicate 864 0 ++ (0x00 ∷ 0xFF ∷ 0x0F ∷ 0xF0 ∷ [])
 
-abbrev pub registers : List ℕ → List ℕ
+abbrev registers : List ℕ → List ℕ
 registers bytes = replicate 320 0 ++ bytes
 
-abbrev pub before : List ℕ
+abbrev before : List ℕ
 before = 0x11 ∷ 0x22 ∷ 0x33 ∷ 0x44 ∷ []
 
 -- a write on a board of two; the number and the four bytes that it leaves: 0 and some, or -n and
 -- the old ones
-abbrev pub write : ℕ → ℕ → ℕ → ℕ → ConfigWritten
+abbrev write : ℕ → ℕ → ℕ → ℕ → ConfigWritten
 write w handle register value =
     writeConfig w (functions 2) records (registers before) (7 ∷ []) handle register value
 
-abbrev pub leaves : List ℕ → ConfigWritten
+abbrev leaves : List ℕ → ConfigWritten
 leaves bytes = configWritten (record { 0 = pos 0 }) (registers bytes) (7 ∷ [])
 
-abbrev pub refuses : ℕ → ConfigWritten
+abbrev refuses : ℕ → ConfigWritten
 refuses n = configWritten (minus n) (registers before) (7 ∷ [])
 
 pub record ConfigWriteRows : Type 0 where

@@ -15,26 +15,26 @@ use Rattle.data_access.specs.Data.{DataWritten, readData, fastReadData, 
 use Rattle.data_access.specs.CCalls.{cReadData, cFastReadData, cWriteData}
 
 -- answers with their numbers
-abbrev pub read : ℤ → ℕ → Read
+abbrev read : ℤ → ℕ → Read
 read status value = record { status = record { 0 = status }; value = value }
 
-abbrev pub fastRead : ℕ → Bool → FastRead
+abbrev fastRead : ℕ → Bool → FastRead
 fastRead value fault = record { value = value; fault = fault }
 
-abbrev pub written : ℤ → List ℕ → DataWritten
+abbrev written : ℤ → List ℕ → DataWritten
 written status cells = record { status = record { 0 = status }; cells = cells }
 
 -- a board of one function with memory windows of 16 cells each: base register 0 in order 1 and 1 in
 -- order 2, with all widths, 2 contested, 3 for bytes alone
-abbrev pub header : List ℕ
+abbrev header : List ℕ
 header = 1 ∷ 0 ∷ 0 ∷ 0 ∷ []
 
-abbrev pub records : List ℕ
+abbrev records : List ℕ
 records =
     replicate 512 0
     ++ (4 ∷ 1 ∷ 7 ∷ 0 ∷ 4 ∷ 2 ∷ 7 ∷ 0 ∷ 4 ∷ 0 ∷ 7 ∷ 0 ∷ 4 ∷ 0 ∷ 1 ∷ 0 ∷ replicate 16 0)
 
-abbrev pub window : ℕ → ℕ → Bool → Window
+abbrev window : ℕ → ℕ → Bool → Window
 window start base contested =
     record {
       space = 0;
@@ -45,7 +45,7 @@ window start base contested =
       contested = contested;
     }
 
-abbrev pub windows : List ℕ
+abbrev windows : List ℕ
 windows =
     map pack
     (window 0x80000000 0 false
@@ -54,18 +54,18 @@ windows =
     ∷ window 0xA0000000 3 false
     ∷ [])
 
-abbrev pub offsets : List ℕ
+abbrev offsets : List ℕ
 offsets = 0 ∷ 16 ∷ 32 ∷ 48 ∷ replicate 93 64
 
 -- the first cells of the first window and of the second, and so many more
-abbrev pub cellsOf : List ℕ → List ℕ → ℕ → List ℕ
+abbrev cellsOf : List ℕ → List ℕ → ℕ → List ℕ
 cellsOf first second more = first ++ (replicate 12 0 ++ (second ++ replicate more 0))
 
 -- those of P13 in both
-abbrev pub p13 : List ℕ
+abbrev p13 : List ℕ
 p13 = 0x11 ∷ 0x22 ∷ 0x33 ∷ 0x44 ∷ []
 
-abbrev pub cells : ℕ → List ℕ
+abbrev cells : ℕ → List ℕ
 cells more = cellsOf p13 p13 more
 
 -- an access: its width, handle and address, and how many more cells are lent; with 44 they are the
@@ -76,34 +76,34 @@ pub record Access : Type 0 where
   pub address : ℕ
   pub lent : ℕ
 
-abbrev pub access : ℕ → ℕ → ℕ → ℕ → Access
+abbrev access : ℕ → ℕ → ℕ → ℕ → Access
 access width handle address lent =
     record { width = width; handle = handle; address = address; lent = lent }
 
-abbrev pub plain : Access → Read
+abbrev plain : Access → Read
 plain a =
     readData (a .width) header records windows offsets (cells (a .lent)) 0 (a .handle) (a .address)
 
-abbrev pub fast : Access → FastRead
+abbrev fast : Access → FastRead
 fast a =
     fastReadData (a .width) header records windows offsets (cells (a .lent)) 0 (a .handle)
     (a .address)
 
 -- writes of 89ABCDEFh
-abbrev pub write : Access → DataWritten
+abbrev write : Access → DataWritten
 write a =
     writeData (a .width) header records windows offsets (cells (a .lent)) 0 (a .handle) (a .address)
     0x89ABCDEF
 
 -- the first byte, word and longword of the first window, and of the second
-abbrev pub accepted : List Access
+abbrev accepted : List Access
 accepted = map (λ w. access w 1 0x80000000 44) (1 ∷ 2 ∷ 4 ∷ [])
 
-abbrev pub acceptedSecond : List Access
+abbrev acceptedSecond : List Access
 acceptedSecond = map (λ w. access w 1 0x88000000 44) (1 ∷ 2 ∷ 4 ∷ [])
 
 -- refused for the handle, the cells, the alignment, no window, a contested one, the width
-abbrev pub refused : List Access
+abbrev refused : List Access
 refused =
     access 1 2 0x80000000 44
     ∷ access 2 1 0x80000000 43
@@ -114,15 +114,15 @@ refused =
     ∷ []
 
 -- calls of C by their width, with a handle and the cells of this board
-abbrev pub cPlain : ℕ → ℕ → Read
+abbrev cPlain : ℕ → ℕ → Read
 cPlain handle width =
     cReadData (widthFromC width) header records windows offsets (cells 44) 0 handle 0x80000000
 
-abbrev pub cFast : ℕ → ℕ → FastRead
+abbrev cFast : ℕ → ℕ → FastRead
 cFast handle width =
     cFastReadData (widthFromC width) header records windows offsets (cells 44) 0 handle 0x80000000
 
-abbrev pub cWrite : ℕ → ℕ → DataWritten
+abbrev cWrite : ℕ → ℕ → DataWritten
 cWrite handle width =
     cWriteData (widthFromC width) header records windows offsets (cells 44) 0 handle 0x80000000
     0x89ABCDEF

@@ -10,15 +10,15 @@ use Rattle.data_cells.specs.declared.target.CellTarget.the-variants.{At,
 use Rattle.data_cells.specs.Cells.{cellsAt, cellTargetIn, cellsValue, cellsAfter}
 
 -- the cells of P13, and four more
-abbrev pub eight : List ℕ
+abbrev eight : List ℕ
 eight = 0x11 ∷ 0x22 ∷ 0x33 ∷ 0x44 ∷ 0x55 ∷ 0x66 ∷ 0x77 ∷ 0x88 ∷ []
 
 -- what is read of w cells for a distance from the window's start
-abbrev pub valueAt : ℕ → ℕ → ℕ → ℕ
+abbrev valueAt : ℕ → ℕ → ℕ → ℕ
 valueAt order w o = cellsValue order w (cellDistance order w o) eight
 
 -- bytes at 0, 3 and 5, words at 0, 2 and 6, longwords at 0 and 4
-abbrev pub readings : ℕ → List (List ℕ)
+abbrev readings : ℕ → List (List ℕ)
 readings order =
     map (valueAt order 1) (0 ∷ 3 ∷ 5 ∷ [])
     ∷ map (valueAt order 2) (0 ∷ 2 ∷ 6 ∷ [])
@@ -26,7 +26,7 @@ readings order =
     ∷ []
 
 -- as the cells stand
-abbrev pub plainReadings : List (List ℕ)
+abbrev plainReadings : List (List ℕ)
 plainReadings =
     (0x11 ∷ 0x44 ∷ 0x66 ∷ [])
     ∷ (0x1122 ∷ 0x3344 ∷ 0x7788 ∷ [])
@@ -34,11 +34,11 @@ plainReadings =
     ∷ []
 
 -- what a write of 89ABCDEFh, of which the low w bytes are taken, leaves of the cells
-abbrev pub leftBy : ℕ → ℕ → ℕ → List ℕ
+abbrev leftBy : ℕ → ℕ → ℕ → List ℕ
 leftBy order w o = cellsAfter order w (cellDistance order w o) 0x89ABCDEF eight
 
 -- bytes at 0 and 3, words at 0 and 2, longwords at 0 and 4
-abbrev pub writings : ℕ → List (List ℕ)
+abbrev writings : ℕ → List (List ℕ)
 writings order =
     leftBy order 1 0
     ∷ leftBy order 1 3
@@ -48,7 +48,7 @@ writings order =
     ∷ leftBy order 4 4
     ∷ []
 
-abbrev pub plainWritings : List (List ℕ)
+abbrev plainWritings : List (List ℕ)
 plainWritings =
     (0xEF ∷ 0x22 ∷ 0x33 ∷ 0x44 ∷ 0x55 ∷ 0x66 ∷ 0x77 ∷ 0x88 ∷ [])
     ∷ (0x11 ∷ 0x22 ∷ 0x33 ∷ 0xEF ∷ 0x55 ∷ 0x66 ∷ 0x77 ∷ 0x88 ∷ [])
@@ -59,7 +59,7 @@ plainWritings =
     ∷ []
 
 -- two functions whose base registers have their cells at 0, 100, 200 .. 1100
-abbrev pub hundreds : List ℕ
+abbrev hundreds : List ℕ
 hundreds = 0 ∷ 100 ∷ 200 ∷ 300 ∷ 400 ∷ 500 ∷ 600 ∷ 700 ∷ 800 ∷ 900 ∷ 1000 ∷ 1100 ∷ []
 
 pub record DataCellsRows : Type 0 where

@@ -6,7 +6,7 @@ use mathlib.Core.Path.{_≡_}
 use Rattle.data_order.specs.Orders.{cellDistance, ordered}
 
 -- where bytes stand for the distances 0, 1, 3 and 6, words for 0, 2 and 4, longwords for 0 and 4
-abbrev pub distances : ℕ → List (List ℕ)
+abbrev distances : ℕ → List (List ℕ)
 distances order =
     map (cellDistance order 1) (0 ∷ 1 ∷ 3 ∷ 6 ∷ [])
     ∷ map (cellDistance order 2) (0 ∷ 2 ∷ 4 ∷ [])
@@ -14,14 +14,14 @@ distances order =
     ∷ []
 
 -- for each distance o at o
-abbrev pub unmoved : List (List ℕ)
+abbrev unmoved : List (List ℕ)
 unmoved = (0 ∷ 1 ∷ 3 ∷ 6 ∷ []) ∷ (0 ∷ 2 ∷ 4 ∷ []) ∷ (0 ∷ 4 ∷ []) ∷ []
 
 -- a byte, a word and a longword as the cells hold them
-abbrev pub values : ℕ → List ℕ
+abbrev values : ℕ → List ℕ
 values order = ordered order 1 0x12 ∷ ordered order 2 0x1234 ∷ ordered order 4 0x12345678 ∷ []
 
-abbrev pub unreversed : List ℕ
+abbrev unreversed : List ℕ
 unreversed = 0x12 ∷ 0x1234 ∷ 0x12345678 ∷ []
 
 pub record DataOrderRows : Type 0 where

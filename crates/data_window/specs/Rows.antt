@@ -23,10 +23,10 @@ use Rattle.data_window.specs.declared.refusal.DataRefusal.the-variants.{
 use Rattle.data_window.specs.Find.{offers, find, statusOf, findIn}
 
 -- one width, two, three, none, and a bit that plays no part, alone and beside bit 2
-abbrev pub someWidths : List ℕ
+abbrev someWidths : List ℕ
 someWidths = 1 ∷ 2 ∷ 4 ∷ 3 ∷ 6 ∷ 7 ∷ 0 ∷ 8 ∷ 12 ∷ []
 
-abbrev pub window : ℕ → ℕ → ℕ → ℕ → ℕ → Bool → Window
+abbrev window : ℕ → ℕ → ℕ → ℕ → ℕ → Bool → Window
 window space start length handle base contested =
     record {
       space = space;
@@ -39,7 +39,7 @@ window space start length handle base contested =
 
 -- memory windows of handles 1 and 2, of which two are at one place and one ends at 2^32, and an I/O
 -- window of handle 2
-abbrev pub list : List Window
+abbrev list : List Window
 list =
     window 0 0x80000000 0x400 1 0 false
     ∷ window 0 0x80000400 0x400 2 0 false
@@ -50,16 +50,16 @@ list =
     ∷ []
 
 -- what is found there, where base registers 0 and 2 of both offer all widths and 1 bytes alone
-abbrev pub checked : Bool → Bool → ℕ → ℕ → ℕ → ℕ → Finding
+abbrev checked : Bool → Bool → ℕ → ℕ → ℕ → ℕ → Finding
 checked good short space w handle address =
     find good short (λ b. offers w (getD (7 ∷ 1 ∷ 7 ∷ []) b 0)) list space w handle address
 
 -- with a good handle and cells that are long enough
-abbrev pub sought : ℕ → ℕ → ℕ → ℕ → Finding
+abbrev sought : ℕ → ℕ → ℕ → ℕ → Finding
 sought space w handle address = checked true false space w handle address
 
 -- an access refused alone for its alignment, its window, the mark there, the width there
-abbrev pub refusedAlone : Bool → Bool → List Finding
+abbrev refusedAlone : Bool → Bool → List Finding
 refusedAlone good short =
     checked good short 0 4 1 0x80000002
     ∷ checked good short 0 4 1 0x80000400
@@ -69,10 +69,10 @@ refusedAlone good short =
 
 -- the same windows as the lent parts have them: 2 functions, 2,832 cells; base register 0 of the
 -- first function offers all widths, of the second words and longwords
-abbrev pub recordOf : ℕ → List ℕ
+abbrev recordOf : ℕ → List ℕ
 recordOf widths0 = replicate 512 0 ++ (10 ∷ 0 ∷ widths0 ∷ 0 ∷ replicate 28 0)
 
-abbrev pub foundIn : ℕ → ℕ → ℕ → ℕ → Finding
+abbrev foundIn : ℕ → ℕ → ℕ → ℕ → Finding
 foundIn w room handle address =
     findIn w (2 ∷ 0 ∷ 0 ∷ 0 ∷ []) (recordOf 7 ++ recordOf 6) (map pack list)
     (replicate 96 0 ++ 2832 ∷ []) room 0 handle address

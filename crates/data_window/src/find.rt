@@ -32,7 +32,14 @@ ghost use Rattle.board.specs.Spaces.{spaceNumber};
 ghost use Rattle.numbers.specs.Numbers.{bytes};
 ghost use Rattle.window.specs.Kept.{unpack, unpacked};
 ghost use Rattle.window.specs.Window.{end};
-ghost use Rattle.data_window.specs.Find.{dataAddress, holds, offers, checkedWindow, inList, findIn};
+ghost use Rattle.data_window.specs.Find.{
+  dataAddress,
+  holds,
+  offers,
+  checkedWindow,
+  inList,
+  findIn,
+};
 
 // What a data access names: the space, the bytes that it moves, whose window, and where.
 pub struct DataAddress {

@@ -1,10 +1,10 @@
 -- The rows of an entry, computed: a line for each field, so that an error names the rule.
 use mathlib.Core.Path.{refl}
 use Rattle.image_entry.specs.Entry.{entryOk}
-use Rattle.image_entry.specs.Rows.{ImageEntryRows, accepted}
+use Rattle.image_entry.specs.Rows.{ImageEntryRows, acceptedBelow}
 
 pub image-entry-rows : ImageEntryRows
-unfolding accepted entryOk
+unfolding acceptedBelow entryOk
 image-entry-rows =
     record {
       noWindowOrder = refl;

@@ -19,34 +19,34 @@ use Rattle.image_layout.specs.declared.layout.Range.{Range}
 use Rattle.image_layout.specs.declared.trailer.Trailer.{Trailer}
 
 -- the numbers of a trailer in the paper's order, and the two positions of a range
-abbrev pub trailerNumbers : Trailer → List ℕ
+abbrev trailerNumbers : Trailer → List ℕ
 trailerNumbers t = t .distance ∷ t .count ∷ t .edition ∷ t .sum ∷ []
 
-abbrev pub positions : Range → List ℕ
+abbrev positions : Range → List ℕ
 positions r = r .from ∷ r .to ∷ []
 
 -- twelve bytes, each another, and notes
-abbrev pub twelve : List ℕ
+abbrev twelve : List ℕ
 twelve =
     0x01 ∷ 0x02 ∷ 0x03 ∷ 0x04
     ∷ 0x05 ∷ 0x06
     ∷ 0xF7 ∷ 0xF8
     ∷ 0xF9 ∷ 0xFA ∷ 0xFB ∷ 0xFC ∷ []
 
-abbrev pub notes : List ℕ
+abbrev notes : List ℕ
 notes = 0x20 ∷ 0x21 ∷ 0x22 ∷ []
 
 -- two records whose bytes differ, and the trailers of the first alone and of both
-abbrev pub first : List ℕ
+abbrev first : List ℕ
 first = 0x11 ∷ replicate 543 0xFF
 
-abbrev pub second : List ℕ
+abbrev second : List ℕ
 second = replicate 544 9
 
-abbrev pub trailerOfFirst : List ℕ
+abbrev trailerOfFirst : List ℕ
 trailerOfFirst = 0 ∷ 0 ∷ 0x02 ∷ 0x2C ∷ 0 ∷ 1 ∷ 0 ∷ 1 ∷ 0 ∷ 0x02 ∷ 0x1C ∷ 0xF2 ∷ []
 
-abbrev pub trailerOfBoth : List ℕ
+abbrev trailerOfBoth : List ℕ
 trailerOfBoth = 0 ∷ 0 ∷ 0x04 ∷ 0x4C ∷ 0 ∷ 2 ∷ 0 ∷ 1 ∷ 0 ∷ 0x02 ∷ 0x30 ∷ 0x12 ∷ []
 
 pub record ImageLayoutRows : Type 0 where

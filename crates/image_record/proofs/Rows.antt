@@ -3,10 +3,10 @@ use mathlib.Core.Path.{refl}
 use Rattle.numbers.specs.Numbers.{little, big}
 use Rattle.image_entry.specs.Entry.{entryOk}
 use Rattle.image_record.specs.Record.{recordOk}
-use Rattle.image_record.specs.Rows.{ImageRecordRows, put, b1First, fullest}
+use Rattle.image_record.specs.Rows.{ImageRecordRows, withBytes, b1First, fullest}
 
 pub image-record-rows : ImageRecordRows
-unfolding little big entryOk recordOk put b1First fullest
+unfolding little big entryOk recordOk withBytes b1First fullest
 image-record-rows =
     record {
       b1 = refl;

@@ -8,63 +8,64 @@ use lib.ListN.{replicate, set}
 use Rattle.image_record.specs.Record.{recordOk}
 
 -- a record with bytes put from a position on
-unfoldable pub put : ℕ → List ℕ → List ℕ → List ℕ
-put at [] r = r
-put at (b ∷ bs) r = set (put (at + 1) bs r) at b
+unfoldable pub withBytes : ℕ → List ℕ → List ℕ → List ℕ
+withBytes at [] r = r
+withBytes at (b ∷ bs) r = set (withBytes (at + 1) bs r) at b
 
-abbrev pub four : ℕ → ℕ → ℕ → ℕ → List ℕ
+abbrev four : ℕ → ℕ → ℕ → ℕ → List ℕ
 four a b c d = a ∷ b ∷ c ∷ d ∷ []
 
 -- B1's first record: vendor 0F0Fh, device 0001h, command 0003h with mask 0003h, class 118000h, base
 -- 0 memory at 80000000h, k 10, order 1, widths 7, line 5 with mask FFh, pin 1; the rest is 0
 unfoldable pub b1First : List ℕ
 b1First =
-    put 0x00 (0x0F ∷ 0x0F ∷ 0x01 ∷ 0x00 ∷ 0x03 ∷ [])
-    (put 0x0A (0x80 ∷ 0x11 ∷ [])
-    (put 0x13 (0x80 ∷ [])
-    (put 0x3C (5 ∷ 1 ∷ [])
-    (put 0x104 (0x03 ∷ [])
-    (put 0x110 (four 0x00 0xFC 0xFF 0xFF)
-    (put 0x13C (0xFF ∷ [])
-    (put 512 (four 10 1 7 0)
+    withBytes 0x00 (0x0F ∷ 0x0F ∷ 0x01 ∷ 0x00 ∷ 0x03 ∷ [])
+    (withBytes 0x0A (0x80 ∷ 0x11 ∷ [])
+    (withBytes 0x13 (0x80 ∷ [])
+    (withBytes 0x3C (5 ∷ 1 ∷ [])
+    (withBytes 0x104 (0x03 ∷ [])
+    (withBytes 0x110 (four 0x00 0xFC 0xFF 0xFF)
+    (withBytes 0x13C (0xFF ∷ [])
+    (withBytes 512 (four 10 1 7 0)
     (replicate 544 0))))))))
 
 -- whether it keeps the rules with bytes put from a position on, and with one byte put there
-abbrev pub okWith : ℕ → List ℕ → Bool
-okWith at bytes = recordOk (put at bytes b1First)
+abbrev okWith : ℕ → List ℕ → Bool
+okWith at bytes = recordOk (withBytes at bytes b1First)
 
-abbrev pub okWithByte : ℕ → ℕ → Bool
+abbrev okWithByte : ℕ → ℕ → Bool
 okWithByte at byte = okWith at (byte ∷ [])
 
 -- whether it keeps them with this register, mask and entry put for base register 0, 1 .. 5
-abbrev pub okWithBase : List ℕ → List ℕ → List ℕ → List Bool
+abbrev okWithBase : List ℕ → List ℕ → List ℕ → List Bool
 okWithBase register mask entry =
     map
     (λ b. recordOk
-    (put (0x10 + 4 * b) register (put (0x110 + 4 * b) mask (put (512 + 4 * b) entry b1First))))
+    (withBytes (0x10 + 4 * b) register
+    (withBytes (0x110 + 4 * b) mask (withBytes (512 + 4 * b) entry b1First))))
     (0 ∷ 1 ∷ 2 ∷ 3 ∷ 4 ∷ 5 ∷ [])
 
 -- four bytes for base 0, and four for each of the others
-abbrev pub ofBases : List ℕ → List ℕ → List ℕ
+abbrev ofBases : List ℕ → List ℕ → List ℕ
 ofBases first other = first ++ (other ++ (other ++ (other ++ (other ++ other))))
 
 -- a record with 1 in every bit that no rule wants 0: vendor FFFEh, pin 4, base 0 memory with k 16,
 -- the others I/O with k 2, order 15
 unfoldable pub fullest : List ℕ
 fullest =
-    put 0x00 (0xFE ∷ [])
-    (put 0x0E (0x80 ∷ [])
-    (put 0x10 (ofBases (four 0x08 0x00 0xFF 0xFF) (four 0xFD 0xFF 0xFF 0xFF))
-    (put 0x30 (four 0 0 0 0)
-    (put 0x3D (4 ∷ [])
-    (put 0x100 (four 0 0 0 0)
-    (put 0x108 (four 0 0 0 0)
-    (put 0x10E (0 ∷ [])
-    (put 0x110 (ofBases (four 0x00 0x00 0xFF 0xFF) (four 0xFC 0xFF 0xFF 0xFF))
-    (put 0x12C (four 0 0 0 0 ++ four 0 0 0 0)
-    (put 0x13D (0 ∷ [])
-    (put 512 (ofBases (four 16 15 7 0) (four 2 15 7 0))
-    (put 536 (four 0xFF 0xFF 0xFF 0xFC)
+    withBytes 0x00 (0xFE ∷ [])
+    (withBytes 0x0E (0x80 ∷ [])
+    (withBytes 0x10 (ofBases (four 0x08 0x00 0xFF 0xFF) (four 0xFD 0xFF 0xFF 0xFF))
+    (withBytes 0x30 (four 0 0 0 0)
+    (withBytes 0x3D (4 ∷ [])
+    (withBytes 0x100 (four 0 0 0 0)
+    (withBytes 0x108 (four 0 0 0 0)
+    (withBytes 0x10E (0 ∷ [])
+    (withBytes 0x110 (ofBases (four 0x00 0x00 0xFF 0xFF) (four 0xFC 0xFF 0xFF 0xFF))
+    (withBytes 0x12C (four 0 0 0 0 ++ four 0 0 0 0)
+    (withBytes 0x13D (0 ∷ [])
+    (withBytes 512 (ofBases (four 16 15 7 0) (four 2 15 7 0))
+    (withBytes 536 (four 0xFF 0xFF 0xFF 0xFC)
     (replicate 544 0xFF)))))))))))))
 
 pub record ImageRecordRows : Type 0 where
@@ -93,7 +94,7 @@ pub record ImageRecordRows : Type 0 where
   -- but not beside them, all at once
   pub masksBeside :
       recordOk
-      (foldr (λ register. put (256 + register) (0x01 ∷ [])) b1First
+      (foldr (λ register. withBytes (256 + register) (0x01 ∷ [])) b1First
       (0x04 ∷ 0x07 ∷ 0x0C ∷ 0x0D ∷ 0x0F ∷ 0x2B ∷ 0x34 ∷ 0x3C ∷ 0x3E ∷ []))
       ≡ true
   -- reset values at 30h-33h are zero

@@ -16,7 +16,7 @@ use Rattle.image_refusals.specs.Refusals.{
 use Rattle.image_refusals.specs.declared.verdict.Verdict.{Verdict}
 
 -- what an image says of itself, in the order of the refusals
-abbrev pub image : ℕ → ℕ → ℕ → ℕ → ℕ → ℕ → ℕ → ℕ → Facts
+abbrev image : ℕ → ℕ → ℕ → ℕ → ℕ → ℕ → ℕ → ℕ → Facts
 image length edition count distance said sum bad total =
     record {
       length = length;
@@ -30,14 +30,14 @@ image length edition count distance said sum bad total =
     }
 
 -- a verdict that names a record, and one that names none
-abbrev pub at : ℤ → ℕ → Verdict
+abbrev at : ℤ → ℕ → Verdict
 at number place = record { number = number; place = place }
 
-abbrev pub verdict : ℕ → Verdict
+abbrev verdict : ℕ → Verdict
 verdict number = at (pos number) 0
 
 -- the first refusal, with 16 cells lent
-abbrev pub checked16 : Facts → Verdict
+abbrev checked16 : Facts → Verdict
 checked16 f = firstRefusal f 16
 
 pub record ImageRefusalsRows : Type 0 where

@@ -7,20 +7,20 @@ use lib.ListN.{replicate}
 use Rattle.image_writer.specs.Write.{writerOutcome, writeImage}
 
 -- an output of n bytes as lent
-abbrev pub lent : ℕ → List ℕ
+abbrev lent : ℕ → List ℕ
 lent n = replicate n 0xEE
 
 -- two loaded records, and the image of the first: 556 back, 1 record, edition 1, sum 138,482
-abbrev pub records : List ℕ
+abbrev records : List ℕ
 records = 0x11 ∷ replicate 543 0xFF ++ replicate 544 9
 
-abbrev pub imageOfFirst : List ℕ
+abbrev imageOfFirst : List ℕ
 imageOfFirst =
     0x11 ∷ replicate 543 0xFF
     ++ (0 ∷ 0 ∷ 0x02 ∷ 0x2C ∷ 0 ∷ 1 ∷ 0 ∷ 1 ∷ 0 ∷ 0x02 ∷ 0x1C ∷ 0xF2 ∷ [])
 
 -- and of both: 1,100 back, 2 records, edition 1, sum 143,378
-abbrev pub imageOfBoth : List ℕ
+abbrev imageOfBoth : List ℕ
 imageOfBoth =
     records
     ++ (0 ∷ 0 ∷ 0x04 ∷ 0x4C ∷ 0 ∷ 2 ∷ 0 ∷ 1 ∷ 0 ∷ 0x02 ∷ 0x30 ∷ 0x12 ∷ [])

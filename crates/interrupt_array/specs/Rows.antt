@@ -17,15 +17,15 @@ use Rattle.interrupt_array.specs.Hooks.{
 }
 
 -- a loaded record with a line at 3Ch and a pin at 3Dh, and other bytes beside them
-abbrev pub loaded : ℕ → ℕ → List ℕ
+abbrev loaded : ℕ → ℕ → List ℕ
 loaded line pin = replicate 0x3B 0 ++ (0xEE ∷ line ∷ pin ∷ 0xEE ∷ replicate 481 0)
 
 -- three functions: handles 1 and 3 on line 5, handle 2 on line 15
-abbrev pub records : List ℕ
+abbrev records : List ℕ
 records = loaded 5 1 ++ (loaded 15 4 ++ loaded 5 2)
 
 -- handle, handler and parameter of three hooks, and zeros
-abbrev pub hooks : List ℕ
+abbrev hooks : List ℕ
 hooks =
     3 ∷ 0x3000 ∷ 9 ∷ 1 ∷ 0x1000 ∷ 8 ∷ 2 ∷ 0x2000 ∷ 7
     ∷ replicate 39 0

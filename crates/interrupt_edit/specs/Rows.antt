@@ -10,10 +10,10 @@ use Rattle.interrupt_edit.specs.declared.change.Change.the-variants.{In,
 use Rattle.interrupt_edit.specs.Changes.{afterChange}
 
 -- the first four entries after a change to the hooks of handles 2, 1, 4
-abbrev pub old : ℕ → Hook
+abbrev old : ℕ → Hook
 old e = getD (hook 2 0x2000 7 ∷ hook 1 0x1000 8 ∷ hook 4 0x4000 5 ∷ []) e (hook 0 0 0)
 
-abbrev pub entries : Change → List Hook
+abbrev entries : Change → List Hook
 entries change = map (afterChange change old) (0 ∷ 1 ∷ 2 ∷ 3 ∷ [])
 
 pub record InterruptEditRows : Type 0 where

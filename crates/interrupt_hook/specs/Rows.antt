@@ -17,52 +17,52 @@ use Rattle.interrupt_hook.specs.Chain.{
 use Rattle.interrupt_hook.specs.Meaning.{hooking, unhooking, arrayAfter, isAmong, without}
 
 -- a loaded record with a line at 3Ch and a pin at 3Dh
-abbrev pub loaded : ℕ → ℕ → List ℕ
+abbrev loaded : ℕ → ℕ → List ℕ
 loaded line pin = replicate 0x3C 0 ++ (line ∷ pin ∷ replicate 482 0)
 
 -- boards of one function and of four: handles 1 and 2 on line 5, handle 3 on line 3, 4 on line 15
-abbrev pub one : List ℕ
+abbrev one : List ℕ
 one = 1 ∷ 0 ∷ 0 ∷ 0 ∷ []
 
-abbrev pub four : List ℕ
+abbrev four : List ℕ
 four = 4 ∷ 0 ∷ 0 ∷ 0 ∷ []
 
-abbrev pub records : List ℕ
+abbrev records : List ℕ
 records = loaded 5 1 ++ (loaded 5 2 ++ (loaded 3 3 ++ loaded 15 4))
 
 -- the array without hooks, and with hooks of some handles
-abbrev pub none : List ℕ
+abbrev none : List ℕ
 none = replicate 48 0
 
-abbrev pub has1 : List ℕ
+abbrev has1 : List ℕ
 has1 = 1 ∷ 0x1000 ∷ 8 ∷ replicate 45 0
 
-abbrev pub has2 : List ℕ
+abbrev has2 : List ℕ
 has2 = 2 ∷ 0x2000 ∷ 7 ∷ replicate 45 0
 
-abbrev pub has21 : List ℕ
+abbrev has21 : List ℕ
 has21 = 2 ∷ 0x2000 ∷ 7 ∷ 1 ∷ 0x1000 ∷ 8 ∷ replicate 42 0
 
-abbrev pub has12 : List ℕ
+abbrev has12 : List ℕ
 has12 = 1 ∷ 0x1000 ∷ 8 ∷ 2 ∷ 0x2000 ∷ 7 ∷ replicate 42 0
 
-abbrev pub has324 : List ℕ
+abbrev has324 : List ℕ
 has324 = 3 ∷ 0x3000 ∷ 9 ∷ 2 ∷ 0x2000 ∷ 7 ∷ 4 ∷ 0x4000 ∷ 6 ∷ replicate 39 0
 
-abbrev pub has3214 : List ℕ
+abbrev has3214 : List ℕ
 has3214 =
     3 ∷ 0x3000 ∷ 9 ∷ 2 ∷ 0x2000 ∷ 7 ∷ 1 ∷ 0x1000 ∷ 8 ∷ 4 ∷ 0x4000 ∷ 6
     ∷ replicate 36 0
 
 -- a chain of hooks of handles 2, 1 and 4
-abbrev pub chain214 : List Hook
+abbrev chain214 : List Hook
 chain214 = hook 2 0x2000 7 ∷ hook 1 0x1000 8 ∷ hook 4 0x4000 6 ∷ []
 
 -- 0 and an array, or -n and an array
-abbrev pub leaves : List ℕ → HookOutcome
+abbrev leaves : List ℕ → HookOutcome
 leaves hooks = hookOutcome (record { 0 = pos 0 }) hooks
 
-abbrev pub refuses : ℕ → List ℕ → HookOutcome
+abbrev refuses : ℕ → List ℕ → HookOutcome
 refuses n hooks = hookOutcome (minus n) hooks
 
 pub record InterruptHookRows : Type 0 where

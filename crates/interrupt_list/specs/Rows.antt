@@ -10,10 +10,10 @@ use Rattle.interrupt_list.specs.declared.listing.ChainListing.the-varian
 use Rattle.interrupt_list.specs.Listing.{chainListing, chainNumber, chainValues}
 
 -- a chain of two hooks, and lines at both sides of the last one
-abbrev pub chain : List Hook
+abbrev chain : List Hook
 chain = hook 2 0x2000 7 ∷ hook 1 0x1000 8 ∷ []
 
-abbrev pub someLines : List ℕ
+abbrev someLines : List ℕ
 someLines = 0 ∷ 15 ∷ 16 ∷ 255 ∷ 0xFFFFFFFF ∷ []
 
 pub record InterruptListRows : Type 0 where

@@ -22,7 +22,7 @@ use Rattle.numbers.specs.Tables.{table, filledUp}
 use Rattle.numbers.specs.declared.number.Width.the-variants.{Byte, Word, Long}
 
 -- 12h 34h 56h 78h from position 1, with another byte on either side
-abbrev pub fourBytes : List ℕ
+abbrev fourBytes : List ℕ
 fourBytes = 0xEE ∷ 0x12 ∷ 0x34 ∷ 0x56 ∷ 0x78 ∷ 0xEE ∷ []
 
 pub record NumbersRows : Type 0 where

@@ -208,8 +208,8 @@ abbrev pub ioWindow : List ℕ
 ioWindow = 1 ∷ 0x104 ∷ 4 ∷ 1 ∷ 1 ∷ 0 ∷ []
 
 -- a descriptor of the small board: flags, the start's highest and two lowest bytes, the length
-abbrev pub descriptorOf : ℕ → ℕ → ℕ → ℕ → ℕ → ℕ → List ℕ
-descriptorOf high low top third least length =
+abbrev pub smallDescriptor : ℕ → ℕ → ℕ → ℕ → ℕ → ℕ → List ℕ
+smallDescriptor high low top third least length =
     0 ∷ 20 ∷ high ∷ low
     ∷ top ∷ top ∷ third ∷ least
     ∷ 0 ∷ 0 ∷ 0 ∷ length
@@ -234,8 +234,8 @@ listingCalls =
     ∷ givesMinus (Ask (CpuToBus 0 (cpu 1))) 9
     ∷ leaves (GetResource 1) (dirty 39) (negℤ (pos 7)) true (dirty 39)
     ∷ leaves (GetResource 1) (dirty 41) (pos 0) false
-    (descriptorOf 0x03 0x01 0xFF 0xFF 0xF0 0x10
-    ++ (descriptorOf 0xC4 0x0F 0 0x01 0x04 4 ++ dirty 1))
+    (smallDescriptor 0x03 0x01 0xFF 0xFF 0xF0 0x10
+    ++ (smallDescriptor 0xC4 0x0F 0 0x01 0x04 4 ++ dirty 1))
     ∷ givesMinus (GetResource 2) 9
     ∷ givesMinus (Ask (SpecialCycle 1 2)) 2
     ∷ givesMinus (Ask (GetRouting 2)) 2
@@ -299,7 +299,7 @@ registerCalls =
     ∷ gives (Config Byte 1 0x04 (Write 0xFC)) []
     ∷ givesMinus (Ask (ListWindow 0)) 4
     ∷ leaves (GetResource 1) (dirty 40) (pos 0) false
-    (descriptorOf 0x03 0x01 0 0 0 0x10 ++ descriptorOf 0xC4 0x0F 0 0 0 4)
+    (smallDescriptor 0x03 0x01 0 0 0 0x10 ++ smallDescriptor 0xC4 0x0F 0 0 0 4)
     ∷ gives (Config Byte 1 0x04 (Write 0xFF)) []
     ∷ gives (Config Word 1 0x04 Read) (0x0003 ∷ [])
     ∷ gives (Config Long 1 0x10 (Write 0)) []

@@ -1,7 +1,7 @@
 -- A small board for rows that document 01 has no case for: one function with 20 cells. Vendor
 -- 1234h, device 5678h, class 118001h, command 0003h with mask 0003h, line 15 with mask FFh, pin 4;
--- base 0 memory at FFFFFFF0h with bit 3 set, so that its end is 2^32, k 4, order 1, widths 3; base 1
--- I/O at 00000104h, k 2, order 15, widths 4; offset F0000010h, dmaoffset 00000007h.
+-- base 0 memory at FFFFFFF0h with bit 3 set, so that its end is 2^32, k 4, order 1, widths 3; base
+-- 1 I/O at 00000104h, k 2, order 15, widths 4; offset F0000010h, dmaoffset 00000007h.
 use Prim.Native.Nat.{ℕ}
 use mathlib.Core.List.{List, [], _∷_, _++_}
 use Rattle.proved_cases.specs.B1.{PlacedByte, at, recordBytes}

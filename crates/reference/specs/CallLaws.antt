@@ -1,5 +1,5 @@
--- What data calls and images mean, said of the calls themselves, on any board: document 01, "Numbers
--- handed back", "Data and byte order" and "Board image". Statements alone, proved in
+-- What data calls and images mean, said of the calls themselves, on any board: document 01,
+-- "Numbers handed back", "Data and byte order" and "Board image". Statements alone, proved in
 -- proofs/CallLaws.antt.
 use Prim.Native.Nat.{ℕ, _%_, _^_, _≤_}
 use mathlib.Core.Bool.{Bool, true, false}
@@ -49,8 +49,8 @@ FastIsPlain =
     → SameRead (step p (Data space width handle address FastRead) own .answer)
     (step p (Data space width handle address Read) own .answer)
 
--- a read after an accepted write through the same handle, address and width gives the value back, of
--- which the bytes of the width were taken
+-- a read after an accepted write through the same handle, address and width gives the value back,
+-- of which the bytes of the width were taken
 abbrev pub ReadAfterWrite : Type 0
 ReadAfterWrite =
     (p : Parts) (space : Space) (width : Width) (handle : ℕ) (address : BusAddress) (value : ℕ)
@@ -66,8 +66,8 @@ cellsOfAccess p space width handle address =
     cellTarget (bytes width) (p .header) (p .records) (p .windows) (p .cellOffsets)
     (length (p .cells)) (spaceNumber space) handle (address .0)
 
--- every data read, of any width, space and handle, plain or fast, that has none of the written cells
--- is unchanged
+-- every data read, of any width, space and handle, plain or fast, that has none of the written
+-- cells is unchanged
 abbrev pub OtherReads : Type 0
 OtherReads =
     (p : Parts) (space space′ : Space) (width width′ : Width) (handle handle′ : ℕ)

@@ -13,7 +13,7 @@ use Rattle.reset.specs.Reset.{reset}
 
 -- one function, whose windows have 4 cells together; registers, kept list, hooks, used marks and
 -- the n cells lent are all 7
-abbrev pub board : ℕ → Parts
+abbrev board : ℕ → Parts
 board n =
     parts (1 ∷ 0 ∷ 0 ∷ 0 ∷ []) (replicate 8704 0) (replicate 4096 7) (replicate 96 7)
     (replicate 96 0 ++ 4 ∷ []) (replicate 48 7) (replicate 32 7) (replicate n 7)

@@ -20,7 +20,7 @@ use Rattle.resource.specs.Resource.{
 
 -- three functions. Handle 1 has windows at base registers 0 and 2. Handle 2 has them at 0, 2, 3 and
 -- 5, none at 1 and 4; both offsets are set. Handle 3 has none
-abbrev pub records : List ℕ
+abbrev records : List ℕ
 records =
     replicate 512 0
     ++ (10 ∷ 0 ∷ 4 ∷ 0 ∷ 0 ∷ 0 ∷ 0 ∷ 0 ∷ 16 ∷ 0 ∷ 1 ∷ 0 ∷ replicate 20 0
@@ -31,7 +31,7 @@ records =
 
 -- the memory command bits of handles 1 and 2 are set and the I/O bits are not. Handle 2's base
 -- register 5 is I/O, at 2000h
-abbrev pub registers : List ℕ
+abbrev registers : List ℕ
 registers =
     0 ∷ 0 ∷ 0 ∷ 0 ∷ 2 ∷ replicate 11 0
     ++ (0 ∷ 0 ∷ 0 ∷ 0x40 ∷ 0 ∷ 0 ∷ 0 ∷ 0 ∷ 0 ∷ 0 ∷ 0 ∷ 0xC0 ∷ replicate 228 0
@@ -40,7 +40,7 @@ registers =
     ∷ 0 ∷ 0 ∷ 0 ∷ 0xA0 ∷ 0 ∷ 0 ∷ 0 ∷ 0 ∷ 1 ∷ 0x20 ∷ 0 ∷ 0 ∷ replicate 472 0)))
 
 -- the open windows: start, length, handle, base register, contested
-abbrev pub memory : ℕ → ℕ → ℕ → ℕ → Bool → Window
+abbrev memory : ℕ → ℕ → ℕ → ℕ → Bool → Window
 memory start length handle base contested =
     record {
       space = 0;
@@ -51,7 +51,7 @@ memory start length handle base contested =
       contested = contested;
     }
 
-abbrev pub windows : List ℕ
+abbrev windows : List ℕ
 windows =
     map pack
     (memory 0x40000000 0x400 1 0 false
@@ -61,11 +61,11 @@ windows =
     ∷ memory 0xC0000000 0x10000 2 2 true
     ∷ [])
 
-abbrev pub called : ℕ → List ℕ → ResourceOutcome
+abbrev called : ℕ → List ℕ → ResourceOutcome
 called handle out = getResource (3 ∷ 0 ∷ 0 ∷ 0 ∷ []) records registers windows handle out
 
 -- the descriptors of handle 2
-abbrev pub shown : List Descriptor
+abbrev shown : List Descriptor
 shown = descriptors (sourceOf records registers windows 2)
 
 pub record ResourceRows : Type 0 where

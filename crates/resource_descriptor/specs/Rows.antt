@@ -13,7 +13,7 @@ use Rattle.resource_descriptor.specs.Descriptor.{
   isLast,
 }
 
-abbrev pub descriptor : ℕ → ℕ → ℕ → ℕ → ℕ → ℕ → Descriptor
+abbrev descriptor : ℕ → ℕ → ℕ → ℕ → ℕ → ℕ → Descriptor
 descriptor next marks start length offset dmaoffset =
     record {
       next = next;
@@ -25,10 +25,10 @@ descriptor next marks start length offset dmaoffset =
     }
 
 -- a descriptor of which no two bytes are alike, and its bytes
-abbrev pub sample : Descriptor
+abbrev sample : Descriptor
 sample = descriptor 0x0014 0xC702 0x81A3C5E7 0x01234567 0x92B4D6F8 0x10325476
 
-abbrev pub sampleBytes : List ℕ
+abbrev sampleBytes : List ℕ
 sampleBytes =
     0x00 ∷ 0x14 ∷ 0xC7 ∷ 0x02 ∷ 0x81 ∷ 0xA3 ∷ 0xC5 ∷ 0xE7 ∷ 0x01 ∷ 0x23 ∷ 0x45 ∷ 0x67
     ∷ 0x92 ∷ 0xB4 ∷ 0xD6 ∷ 0xF8 ∷ 0x10 ∷ 0x32 ∷ 0x54 ∷ 0x76 ∷ []

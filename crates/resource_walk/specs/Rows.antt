@@ -10,11 +10,11 @@ use Rattle.resource_walk.specs.Walk.{stepAt, walk, stands}
 
 -- 60 bytes that begin with next and flags; each byte after them is its own position, so that the
 -- next field at 20 is 1415h, the one at 21 is 1516h
-abbrev pub starting : ℕ → ℕ → List ℕ
+abbrev starting : ℕ → ℕ → List ℕ
 starting next flags = bigBytes 2 next ++ (bigBytes 2 flags ++ tableFrom 4 56 (λ i. i))
 
 -- the next fields of the descriptors that a walk from 0 hands back
-abbrev pub walked : List ℕ → List ℕ
+abbrev walked : List ℕ → List ℕ
 walked bytes = map (λ d. d .next) (walk bytes 0)
 
 pub record ResourceWalkRows : Type 0 where

@@ -20,20 +20,20 @@ use Rattle.search.specs.Search.{
 
 -- the first registers of a function of vendor 1234h, device 5678h, revision 44h, class 112233h; and
 -- of one of vendor 1235h, device 5679h, class 112333h
-abbrev pub card : List ℕ
+abbrev card : List ℕ
 card = 0x34 ∷ 0x12 ∷ 0x78 ∷ 0x56 ∷ 0 ∷ 0 ∷ 0 ∷ 0 ∷ 0x44 ∷ 0x33 ∷ 0x22 ∷ 0x11 ∷ 0x55 ∷ []
 
-abbrev pub other : List ℕ
+abbrev other : List ℕ
 other = 0x35 ∷ 0x12 ∷ 0x79 ∷ 0x56 ∷ 0 ∷ 0 ∷ 0 ∷ 0 ∷ 0x44 ∷ 0x33 ∷ 0x23 ∷ 0x11 ∷ 0x55 ∷ []
 
 -- the registers of three functions, by place: the second is the other one
-abbrev pub cards : ℕ → ℕ → ℕ
+abbrev cards : ℕ → ℕ → ℕ
 cards i = byteAt (getD (card ∷ other ∷ card ∷ []) i [])
 
-abbrev pub hasDevice : ℕ → Bool
+abbrev hasDevice : ℕ → Bool
 hasDevice id = deviceMatches id (byteAt card)
 
-abbrev pub hasClass : ℕ → Bool
+abbrev hasClass : ℕ → Bool
 hasClass class = classMatches class (byteAt card)
 
 pub record SearchRows : Type 0 where

@@ -11,19 +11,19 @@ use Rattle.window_list.specs.Windows.{sorted, contends, withMarks, listO
 use Rattle.window_list.specs.Kept.{keptList}
 
 -- a board's entries or registers by place and position; 0 where none is named
-abbrev pub board : List (List ℕ) → ℕ → ℕ → ℕ
+abbrev board : List (List ℕ) → ℕ → ℕ → ℕ
 board l i at = getD (getD l i []) at 0
 
 -- registers with a command byte at 04h and the bytes of base registers from 10h on
-abbrev pub registers : ℕ → List ℕ → List ℕ
+abbrev registers : ℕ → List ℕ → List ℕ
 registers command bases = replicate 4 0 ++ (command ∷ replicate 11 0 ++ bases)
 
 -- B1's length exponents
-abbrev pub exponents : ℕ → ℕ → ℕ
+abbrev exponents : ℕ → ℕ → ℕ
 exponents = board ((10 ∷ []) ∷ (10 ∷ 4 ∷ []) ∷ [])
 
 -- B1's registers, with handle 2's command byte and the second byte of its base register 0
-abbrev pub b1 : ℕ → ℕ → ℕ → ℕ → ℕ
+abbrev b1 : ℕ → ℕ → ℕ → ℕ → ℕ
 b1 command second =
     board (
     registers 3 (0x00 ∷ 0x00 ∷ 0x00 ∷ 0x80 ∷ [])
@@ -35,7 +35,7 @@ b1 command second =
     )
 
 -- one function: memory at 80000050h, 80000040h .. 80000000h, each of 16 bytes
-abbrev pub falling : ℕ → ℕ → ℕ
+abbrev falling : ℕ → ℕ → ℕ
 falling =
     board (
     registers 2 (
@@ -50,7 +50,7 @@ falling =
     )
 
 -- memory of 16 bytes, unmarked: start, handle
-abbrev pub short : ℕ → ℕ → Window
+abbrev short : ℕ → ℕ → Window
 short start handle = mem start 16 handle 0 clear
 
 pub record WindowListRows : Type 0 where

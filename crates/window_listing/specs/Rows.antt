@@ -21,13 +21,13 @@ use Rattle.window_listing.specs.Listing.{
 }
 
 -- two windows; the first index, the last, the one past the end, and the highest of all
-abbrev pub two : List Window
+abbrev two : List Window
 two = mem 0x80000000 0x400 1 0 clear ∷ io 0x00000100 0x10 2 1 contested ∷ []
 
-abbrev pub indices : List ℕ
+abbrev indices : List ℕ
 indices = 0 ∷ 1 ∷ 2 ∷ 0xFFFFFFFF ∷ []
 
-abbrev pub answers : List Listing
+abbrev answers : List Listing
 answers =
     Found (Memory (bus 0x80000000) 0x400) 1 0 false
     ∷ Found (Io (bus 0x00000100) 0x10) 2 1 true
@@ -35,11 +35,11 @@ answers =
     ∷ Refused (minus 4)
     ∷ []
 
-abbrev pub numbers : List ℤ
+abbrev numbers : List ℤ
 numbers = pos 0 ∷ pos 0 ∷ negℤ (pos 4) ∷ negℤ (pos 4) ∷ []
 
 -- space, start, length, handle, base register, mark
-abbrev pub values : List (List ℕ)
+abbrev values : List (List ℕ)
 values =
     (0 ∷ 0x80000000 ∷ 0x400 ∷ 1 ∷ 0 ∷ 0 ∷ [])
     ∷ (1 ∷ 0x00000100 ∷ 0x10 ∷ 2 ∷ 1 ∷ 1 ∷ [])

@@ -6,7 +6,7 @@ use Rattle.window.specs.Rows.{mem, io, clear, contested}
 use Rattle.window_start.specs.Start.{startIn}
 
 -- handle 2 has windows at base registers 0 and 1, and a contested one at 3
-abbrev pub fourWindows : List Window
+abbrev fourWindows : List Window
 fourWindows =
     mem 0x80000000 0x400 1 0 clear
     ∷ mem 0x80000400 0x400 2 0 clear
