@@ -31,3 +31,4 @@ pub mod Seen
 pub mod NonInterference
 pub mod Demand3
 pub mod CallLaws
+pub mod FoundWindow

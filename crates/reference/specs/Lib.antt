@@ -1,6 +1,8 @@
--- The program's step, the reference machine, runs of both, and the claims about runs.
+-- The program's step, the reference machine, runs of both, the claims about runs, and laws of
+-- single calls.
 pub mod State
 pub mod Reference
 pub mod Run
 pub mod Claims
 pub mod CallLaws
+pub mod FoundWindow
