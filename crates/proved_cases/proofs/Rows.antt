@@ -25,14 +25,14 @@ use Rattle.proved_cases.specs.B1.{recordBytes}
 use Rattle.proved_cases.specs.SmallBoard.{smallImage}
 use Rattle.proved_cases.specs.Rows.{Run, CellsMachine, EveryRow, runTable, programRuns, referenceRuns}
 
-reference-rows : EveryRow referenceRuns runTable
+reference-runs : EveryRow referenceRuns runTable
 unfolding recordBytes smallImage little big tableFrom windowAt gather openWindows put putAll listOf listedNumber listedValues target matching searchNumber inList find cellTargetAt reversed descriptorBytes descriptorsBytes windowsFrom startIn described resource hookListedNumber hookListedValues isAmong without entryOk recordOk cellsBefore sum firstBad firstRefusal joined split imageVerdict referenceStep referenceQueried referenceResponses
-reference-rows = (refl, (refl, (refl, (refl, (refl, (refl, (refl, (refl, tt))))))))
+reference-runs = (refl, (refl, (refl, (refl, (refl, (refl, (refl, (refl, tt))))))))
 
 -- rows of the reference machine are rows of the program
 as-program : (rs : List Run) → EveryRow referenceRuns rs → EveryRow programRuns rs
 as-program [] e = tt
 as-program (r ∷ rs) e = (refinement (r .cells) _ .answered ∙ e .0, as-program rs (e .1))
 
-pub program-rows : EveryRow programRuns runTable
-program-rows = as-program runTable reference-rows
+pub program-runs : EveryRow programRuns runTable
+program-runs = as-program runTable reference-runs

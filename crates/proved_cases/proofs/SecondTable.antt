@@ -32,8 +32,9 @@ use Rattle.interrupt_list.proofs.Rows.{interrupt-list-rows}
 use Rattle.card_used.proofs.Rows.{card-used-rows}
 use Rattle.unsupported.proofs.Rows.{unsupported-rows}
 use Rattle.call.proofs.Rows.{call-rows}
+use Rattle.reference.proofs.Rows.{reference-rows}
 use Rattle.proved_cases.specs.SecondTable.{SecondTable}
-use Rattle.proved_cases.proofs.Rows.{program-rows}
+use Rattle.proved_cases.proofs.Rows.{program-runs}
 
 pub second-table : SecondTable
 second-table =
@@ -71,5 +72,6 @@ second-table =
       cardUsed = card-used-rows;
       unsupported = unsupported-rows;
       call = call-rows;
-      runs = program-rows;
+      reference = reference-rows;
+      runs = program-runs;
     }

@@ -33,6 +33,7 @@ use Rattle.interrupt_list.specs.Rows.{InterruptListRows}
 use Rattle.card_used.specs.Rows.{CardUsedRows}
 use Rattle.unsupported.specs.Rows.{UnsupportedRows}
 use Rattle.call.specs.Rows.{CallRows}
+use Rattle.reference.specs.Rows.{ReferenceRows}
 use Rattle.proved_cases.specs.Rows.{EveryRow, programRuns, runTable}
 
 pub record SecondTable : Type 0 where
@@ -77,5 +78,7 @@ pub record SecondTable : Type 0 where
   pub unsupported : UnsupportedRows
   -- answers
   pub call : CallRows
+  -- what the claims are made of
+  pub reference : ReferenceRows
   -- calls from a fresh board, of the program's step
   pub runs : EveryRow programRuns runTable

@@ -32,3 +32,4 @@ pub mod NonInterference
 pub mod Demand3
 pub mod CallLaws
 pub mod FoundWindow
+pub mod Rows

@@ -6,3 +6,4 @@ pub mod Run
 pub mod Claims
 pub mod CallLaws
 pub mod FoundWindow
+pub mod Rows
