@@ -9,7 +9,6 @@ use lib.ListN.{set, replicate, take}
 use Rattle.board.specs.Addresses.{bus, cpu}
 use Rattle.board.specs.declared.space.Space.the-variants.{Memory, Io}
 use Rattle.numbers.specs.declared.number.Width.the-variants.{Byte, Word, Long}
-use Rattle.call.specs.declared.answer.Answer.{Answer}
 use Rattle.call.specs.declared.call.Call.{Call}
 use Rattle.call.specs.declared.call.Access.the-variants.{Read, FastRead, Write}
 use Rattle.call.specs.declared.call.Call.the-variants.{

@@ -1,7 +1,7 @@
 -- Rows with literal numbers of document 01: the widths and byte orders of "Registers", "Board
 -- image" and "Data and byte order", powers of two and bits, the 32 bits of a number handed back.
 use Prim.Native.Nat.{ℕ, _+_}
-use mathlib.Core.Bool.{Bool, true, false}
+use mathlib.Core.Bool.{true, false}
 use mathlib.Core.List.{List, [], _∷_, map}
 use mathlib.Core.Path.{_≡_}
 use lib.IntN.{pos, negℤ}

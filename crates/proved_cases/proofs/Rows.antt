@@ -1,6 +1,6 @@
 -- The second table: the runs worked out on the reference machine, and so for the program's step.
-use mathlib.Core.List.{List, [], _∷_, map}
-use mathlib.Core.Path.{_≡_, refl, _∙_}
+use mathlib.Core.List.{List, [], _∷_}
+use mathlib.Core.Path.{refl, _∙_}
 use Rattle.numbers.specs.Numbers.{little, big, reversed}
 use Rattle.numbers.specs.Tables.{tableFrom}
 use Rattle.window_list.specs.Windows.{windowAt, gather, openWindows, put, putAll, listOf}
@@ -18,12 +18,12 @@ use Rattle.image_record.specs.Record.{recordOk}
 use Rattle.cell_layout.specs.Cells.{cellsBefore}
 use Rattle.image_layout.specs.Image.{sum}
 use Rattle.image_refusals.specs.Refusals.{firstBad, firstRefusal}
-use Rattle.reference.specs.Reference.{referenceStart, joined, cellTargetAt, split, imageVerdict, referenceStep, referenceQueried}
+use Rattle.reference.specs.Reference.{joined, cellTargetAt, split, imageVerdict, referenceStep, referenceQueried}
 use Rattle.reference.specs.Run.{referenceResponses}
 use Rattle.reference.proofs.Refinement.{refinement}
 use Rattle.proved_cases.specs.B1.{recordBytes}
 use Rattle.proved_cases.specs.SmallBoard.{smallImage}
-use Rattle.proved_cases.specs.Rows.{Run, CellsMachine, EveryRow, runTable, programRuns, referenceRuns}
+use Rattle.proved_cases.specs.Rows.{Run, EveryRow, runTable, programRuns, referenceRuns}
 
 reference-runs : EveryRow referenceRuns runTable
 unfolding recordBytes smallImage little big tableFrom windowAt gather openWindows put putAll listOf listedNumber listedValues target matching searchNumber inList find cellTargetAt reversed descriptorBytes descriptorsBytes windowsFrom startIn described resource hookListedNumber hookListedValues isAmong without entryOk recordOk cellsBefore sum firstBad firstRefusal joined split imageVerdict referenceStep referenceQueried referenceResponses

@@ -1,5 +1,5 @@
 -- The laws of single calls.
-use Prim.Native.Nat.{ℕ, _≤_}
+use Prim.Native.Nat.{ℕ}
 use mathlib.Core.Bool.{true, false, not, false≢true}
 use mathlib.Core.List.{List, [], _∷_}
 use mathlib.Core.Path.{_≡_, refl, sym, ap, _∙_}
@@ -8,27 +8,23 @@ use lib.ListN.{length, getD}
 use Rattle.board.specs.Parts.{Parts}
 use Rattle.board.specs.Layout.{windowsMax}
 use Rattle.board.specs.Spaces.{spaceNumber}
-use Rattle.board.specs.Statuses.{successful}
 use Rattle.numbers.specs.Numbers.{bytes}
 use Rattle.data_window.specs.Find.{statusOf}
 use Rattle.data_window.specs.declared.refusal.DataRefusal.{DataRefusal}
 use Rattle.data_window.specs.declared.refusal.DataRefusal.the-variants.{BadHandle, ShortCells, NotAligned, Nothing, Contested, WidthMissing, PastBuffer}
-use Rattle.data_access.specs.Data.{writeData}
 use Rattle.data_access.proofs.Meaning.{data-read-back, other-reads-kept}
-use Rattle.image_layout.specs.Image.{imageSize, countOf}
 use Rattle.image_refusals.specs.Refusals.{accepted}
 use Rattle.reset.specs.Reset.{reset, restarted}
 use Rattle.load.specs.Load.{load}
-use Rattle.load.specs.Meaning.{rewritten}
 use Rattle.load.proofs.Trip.{round-trip}
 use Rattle.call.specs.declared.call.Call.{Call}
 use Rattle.call.specs.declared.call.Access.the-variants.{Read, FastRead, Write}
 use Rattle.call.specs.declared.call.Call.the-variants.{Load, Reset, WriteImage, Config, Data, GetResource, HookInterrupt, UnhookInterrupt, SetCardUsed, Ask}
-use Rattle.call.specs.Answers.{refuses, ofRead, ofFastRead, ofVerdict}
-use Rattle.reference.specs.State.{Outcome, step}
+use Rattle.call.specs.Answers.{refuses, ofRead, ofFastRead}
+use Rattle.reference.specs.State.{step}
 use Rattle.reference.specs.Run.{Request, partsAfter, stepOn}
 use Rattle.reference.specs.CallLaws.{FastIsPlain, ReadAfterWrite, OtherReads, cellsOfAccess, isLoad, NoLoad, RecordsKept, CallLaws}
-use Rattle.reference.proofs.Tests.{ifTest, ifEither, ifAt}
+use Rattle.reference.proofs.Tests.{ifEither, ifAt}
 use Rattle.reference.proofs.Verdicts.{stated, ifVerdict}
 
 data-refuses : (r : DataRefusal) → refuses (statusOf r .0) ≡ true

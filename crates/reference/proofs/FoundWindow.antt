@@ -1,5 +1,5 @@
 -- Which window data goes through: what finding it means, over what the list means.
-use Prim.Native.Nat.{ℕ, _+_, _-_, _<_}
+use Prim.Native.Nat.{ℕ, _-_}
 use native.Mathlib.Omega.{arith}
 use mathlib.Core.Bool.{Bool, true, false, false≢true}
 use mathlib.Core.List.{List, [], _∷_, _++_}
@@ -13,7 +13,7 @@ use Rattle.window_list.specs.Windows.{withMark}
 use Rattle.window_list.specs.Meaning.{OpenAt, Contests, Contested, Means}
 use Rattle.window_list.proofs.Meaning.{list-means}
 use Rattle.data_window.specs.Find.{offers}
-use Rattle.data_window.specs.Meaning.{HeldBy, FirstHolder, Asked, Reached, Given}
+use Rattle.data_window.specs.Meaning.{HeldBy, FirstHolder, Given}
 use Rattle.data_window.specs.declared.find.Finding.{Finding}
 use Rattle.data_window.specs.declared.find.Finding.the-variants.{Found, Refused}
 use Rattle.data_window.specs.declared.refusal.DataRefusal.the-variants.{BadHandle, ShortCells, NotAligned, Nothing, Contested as IsContested, WidthMissing, PastBuffer}
@@ -28,12 +28,8 @@ in-middle v [] after = inl refl
 in-middle v (u ∷ before) after = inr (in-middle v before after)
 
 -- a mark plays no part in what contests a window
-unmarked : (c : Bool) (u x : Window) → Contests u x → Contests (withMark c u) x
-unmarked c u x t =
-    record { other = t .other; space = t .space; address = t .address; from-v = t .from-v; to-v = t .to-v; from-w = t .from-w; to-w = t .to-w }
-
-marked : (c : Bool) (u x : Window) → Contests (withMark c u) x → Contests u x
-marked c u x t =
+remarked : (c d : Bool) (u x : Window) → Contests (withMark c u) x → Contests (withMark d u) x
+remarked c d u x t =
     record { other = t .other; space = t .space; address = t .address; from-v = t .from-v; to-v = t .to-v; from-w = t .from-w; to-w = t .to-w }
 
 module _ (b : Reference) (w space handle address : ℕ) where
@@ -80,7 +76,7 @@ module _ (b : Reference) (w space handle address : ℕ) where
     clear-listed =
         m .listed (withMark false v) .1 (
           record { function = o .function; register = o .register; there = o .there; six = o .six; opened = o .opened; same = o .same },
-          ((λ e. absurd (false≢true e)), (λ t. absurd (n (t .0, t .1, marked false v (t .0) (t .2))))),
+          ((λ e. absurd (false≢true e)), (λ t. absurd (n (t .0, t .1, remarked false (v .contested) v (t .0) (t .2))))),
         )
 
     held-clear : HeldBy space handle address (withMark false v)
@@ -115,7 +111,7 @@ module _ (b : Reference) (w space handle address : ℕ) where
       not-contested : u .contested ≡ true → ⊥
       not-contested c =
           let t = m .listed u .0 (listed u f) .1 .0 c in
-          n (t .0, t .1, marked false v (t .0) (rw same-window at (unmarked false u (t .0) (t .2))))
+          n (t .0, t .1, remarked false (v .contested) v (t .0) (rw same-window at (remarked (u .contested) false u (t .0) (t .2))))
 
   -- found: by a window for which all of it holds
   through : (base distance remaining : ℕ) → findFor b w space handle address ≡ Found base distance remaining

@@ -22,7 +22,7 @@ use Rattle.call.specs.declared.call.Access.the-variants.{Read, FastRead, Write}
 use Rattle.call.specs.declared.call.Call.the-variants.{Load, Reset, WriteImage, Config, Data, GetResource, HookInterrupt, UnhookInterrupt, SetCardUsed, Ask}
 use Rattle.reference.specs.Reference.{Reference, referenceOutcome, fresh, exponentOf, joined, imageBytes, targetOf, cellTargetFor, writeOf, imageVerdict, referenceStep, referenceStart}
 use Rattle.reference.specs.Run.{Request, stepOn, referenceAfter, partsOf}
-use Rattle.reference.specs.Claims.{Touch, hooksStay, none, every, touch, nothing, addressed, mayTouch, Framed, CallFramed, Frame}
+use Rattle.reference.specs.Claims.{Touch, hooksStay, none, every, touch, nothing, addressed, mayTouch, CallFramed, Frame}
 use Rattle.reference.proofs.Tests.{ifTest, ifTarget, ifAt}
 use Rattle.reference.proofs.Alike.{alike, touched, header-alike, zeroed-alike, table-alike, front-alike, written-alike}
 use Rattle.reference.proofs.Records.{joined-length}

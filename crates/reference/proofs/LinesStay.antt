@@ -1,19 +1,18 @@
 -- Claim 3 for the hooks of each line.
-use Prim.Native.Nat.{ℕ, _≤_}
+use Prim.Native.Nat.{ℕ}
 use mathlib.Core.Bool.{Bool, true, false, cond, not, false≢true}
-use mathlib.Core.List.{List, [], _∷_, _++_}
+use mathlib.Core.List.{List, [], _∷_}
 use mathlib.Core.Path.{_≡_, refl, ap}
 use lib.Dec.{eqb, ltb, leb}
 use lib.ListN.{length}
-use borrow.Author.Tests.{eq-eqb, ne-eqb, eqb-true, not-true}
+use borrow.Author.Tests.{eq-eqb, ne-eqb, eqb-true}
 use Rattle.numbers.specs.Numbers.{bytes}
-use Rattle.interrupt_array.specs.Hooks.{Hook, hook, lastLine, isRouted, chainOf}
+use Rattle.interrupt_array.specs.Hooks.{Hook, hook, isRouted}
 use Rattle.interrupt_hook.specs.Meaning.{isAmong, without}
 use Rattle.cell_layout.specs.Cells.{total}
 use Rattle.image_layout.specs.Image.{imageSize}
 use Rattle.image_refusals.specs.Refusals.{isAccepted}
 use Rattle.board.specs.Spaces.{spaceNumber}
-use Rattle.resource.specs.Resource.{resource}
 use Rattle.config_read.specs.declared.target.Target.{Target}
 use Rattle.config_read.specs.declared.target.Target.the-variants.{Function, Refused}
 use Rattle.data_cells.specs.declared.target.CellTarget.{CellTarget}

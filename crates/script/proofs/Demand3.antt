@@ -16,7 +16,7 @@ use Rattle.reference.proofs.Refusal.{refusal}
 use Rattle.reference.proofs.Frame.{framed, frame}
 use Rattle.reference.proofs.Refinement.{refinement}
 use Rattle.reference.proofs.NonInterference.{non-interference}
-use Rattle.call_encoding.specs.Format.{callHeaderSize, answerBytes}
+use Rattle.call_encoding.specs.Format.{answerBytes}
 use Rattle.script.specs.Script.{callsIn, callsBytes, rendered, runOf}
 use Rattle.script.specs.Demand3.{callBytes, bytesFor, bytesWithoutDataOf, EveryTurn, LastBoard, ScriptNonInterference, Demand3OfRun}
 use Rattle.script.proofs.Fronts.{answer-length}

@@ -2,7 +2,7 @@
 -- length and end, and its kept number; and of "What the promises say" that k outside 2..16 is none.
 use Prim.Native.Nat.{ℕ}
 use mathlib.Core.Bool.{Bool, true, false}
-use mathlib.Core.List.{List, [], _∷_, map}
+use mathlib.Core.List.{[], _∷_, map}
 use mathlib.Core.Path.{_≡_}
 use Rattle.window.specs.Window.{
   Window,

@@ -1,7 +1,7 @@
 -- Rows with literal numbers of document 01, section "Windows": when a window is contested, the
 -- order of the list, and the lists of small boards.
 use Prim.Native.Nat.{ℕ}
-use mathlib.Core.Bool.{Bool, true, false}
+use mathlib.Core.Bool.{true, false}
 use mathlib.Core.List.{List, [], _∷_, _++_, map}
 use mathlib.Core.Path.{_≡_}
 use lib.ListN.{getD, replicate}
