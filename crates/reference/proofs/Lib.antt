@@ -30,6 +30,6 @@ pub mod Quiet
 pub mod Seen
 pub mod NonInterference
 pub mod Demand3
-pub mod CallLaws
+pub mod SingleCalls
 pub mod FoundWindow
 pub mod Rows

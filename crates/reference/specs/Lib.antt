@@ -4,6 +4,6 @@ pub mod State
 pub mod Reference
 pub mod Run
 pub mod Claims
-pub mod CallLaws
+pub mod SingleCalls
 pub mod FoundWindow
 pub mod Rows

@@ -1,6 +1,6 @@
 -- What data calls and images mean, said of the calls themselves, on any board: document 01,
 -- "Numbers handed back", "Data and byte order" and "Board image". Statements alone, proved in
--- proofs/CallLaws.antt.
+-- proofs/SingleCalls.antt.
 use Prim.Native.Nat.{ℕ, _%_, _^_, _≤_}
 use mathlib.Core.Bool.{Bool, true, false}
 use mathlib.Core.List.{List, [], _∷_}

@@ -23,7 +23,7 @@ use Rattle.call.specs.declared.call.Call.the-variants.{Load, Reset, WriteImage,
 use Rattle.call.specs.Answers.{refuses, ofRead, ofFastRead}
 use Rattle.reference.specs.State.{step}
 use Rattle.reference.specs.Run.{Request, partsAfter, stepOn}
-use Rattle.reference.specs.CallLaws.{FastIsPlain, ReadAfterWrite, OtherReads, cellsOfAccess, isLoad, NoLoad, RecordsKept, CallLaws}
+use Rattle.reference.specs.SingleCalls.{FastIsPlain, ReadAfterWrite, OtherReads, cellsOfAccess, isLoad, NoLoad, RecordsKept, CallLaws}
 use Rattle.reference.proofs.Tests.{ifEither, ifAt}
 use Rattle.reference.proofs.Verdicts.{stated, ifVerdict}
 
