@@ -1,52 +1,36 @@
--- Which window data goes through: what finding it means, over what the list means.
+-- Which window data goes through: what finding it in a list means, over what the list means.
 use Prim.Native.Nat.{ℕ, _-_}
-use native.Mathlib.Omega.{arith}
 use mathlib.Core.Bool.{Bool, true, false, false≢true}
-use mathlib.Core.List.{List, [], _∷_, _++_}
-use mathlib.Core.Logic.{inl, inr}
+use mathlib.Core.List.{List}
 use mathlib.Core.Path.{_≡_, refl, sym, ap, _∙_}
-use lib.Dec.{eqb, ltb}
+use lib.Dec.{ltb}
 use lib.ListN.{length}
-use borrow.Author.Tests.{eqb-true, eqb-false, ltb-false, le-ltb}
-use Rattle.window.specs.Window.{Window, end, In}
-use Rattle.window_list.specs.Windows.{withMark}
-use Rattle.window_list.specs.Meaning.{OpenAt, Contests, Contested, Means}
+use borrow.Author.Tests.{ltb-true, ltb-false, lt-ltb, le-ltb}
+use Rattle.window.specs.Window.{Window, end}
 use Rattle.window_list.proofs.Meaning.{list-means}
 use Rattle.data_window.specs.Find.{offers}
-use Rattle.data_window.specs.Meaning.{HeldBy, FirstHolder, Given}
+use Rattle.data_window.specs.Meaning.{Asked, Given}
 use Rattle.data_window.specs.declared.find.Finding.{Finding}
 use Rattle.data_window.specs.declared.find.Finding.the-variants.{Found, Refused}
-use Rattle.data_window.specs.declared.refusal.DataRefusal.the-variants.{BadHandle, ShortCells, NotAligned, Nothing, Contested as IsContested, WidthMissing, PastBuffer}
+use Rattle.data_window.specs.declared.refusal.DataRefusal.the-variants.{BadHandle, ShortCells, NotAligned, Nothing, Contested, WidthMissing, PastBuffer}
 use Rattle.data_window.proofs.Meaning.{find-means}
 use Rattle.cell_layout.specs.Cells.{total}
 use Rattle.reference.specs.Reference.{Reference, entryField, exponentOf, isHandleOf, windowsOf, findFor}
-use Rattle.reference.specs.FoundWindow.{FoundThrough, FoundExactly}
-use Rattle.reference.proofs.Tests.{ifEither}
-
-in-middle : (v : Window) (before after : List Window) → In v (before ++ (v ∷ after))
-in-middle v [] after = inl refl
-in-middle v (u ∷ before) after = inr (in-middle v before after)
-
--- a mark plays no part in what contests a window
-remarked : (c d : Bool) (u x : Window) → Contests (withMark c u) x → Contests (withMark d u) x
-remarked c d u x t =
-    record { other = t .other; space = t .space; address = t .address; from-v = t .from-v; to-v = t .to-v; from-w = t .from-w; to-w = t .to-w }
+use Rattle.reference.specs.FoundWindow.{Ready, Holder, Condition, FoundExactly}
+use Rattle.reference.proofs.Holders.{First, first, none-open}
 
 module _ (b : Reference) (w space handle address : ℕ) where
-  abbrev count : ℕ
-  count = length (b .records)
-
   abbrev k : ℕ → ℕ → ℕ
   k = exponentOf (b .records)
 
   abbrev l : List Window
   l = windowsOf b
 
-  abbrev Open : Window → Type 0
-  Open = OpenAt count k (b .registers)
+  abbrev Has : Window → Type 0
+  Has = Holder b w space handle address
 
-  abbrev IsContestedIn : Window → Type 0
-  IsContestedIn = Contested count k (b .registers)
+  abbrev IsFirst : Window → Type 0
+  IsFirst = First b w space handle address
 
   abbrev offered : ℕ → Bool
   offered base = offers w (entryField (b .records) (handle - 1) base 2)
@@ -54,109 +38,83 @@ module _ (b : Reference) (w space handle address : ℕ) where
   abbrev short : Bool
   short = ltb (length (b .cells)) (total k)
 
-  m : Means count k (b .registers) l
-  m = list-means count k (b .registers)
+  ready : Asked (isHandleOf b handle) short w address → Ready b w space handle address
+  ready a = record { goodHandle = a .goodHandle; enoughCells = ltb-false (length (b .cells)) (total k) (a .enoughCells); multiple = a .multiple }
 
-  -- the windows of one base register are the same but for the mark
-  one-register : (u v : Window) → Open u → Open v → u .handle ≡ v .handle → u .base ≡ v .base → withMark false u ≡ withMark false v
-  one-register u v o p h e =
-      let i : o .function ≡ p .function =
-      omega (arith, ap (λ (x : Window). x .handle) (o .same), ap (λ (x : Window). x .handle) (p .same), h) in
-      let r : o .register ≡ p .register =
-      sym (ap (λ (x : Window). x .base) (o .same)) ∙ e ∙ ap (λ (x : Window). x .base) (p .same) in
-      o .same ∙ rw (i, r) (sym (p .same))
+  asked : Ready b w space handle address → Asked (isHandleOf b handle) short w address
+  asked r = record { goodHandle = r .goodHandle; enoughCells = le-ltb (length (b .cells)) (total k) (r .enoughCells); multiple = r .multiple }
 
-  -- the first holder stands in the list
-  listed : (v : Window) → FirstHolder space handle address l v → In v l
-  listed v f = rw (f .listed) (in-middle v (f .before) (f .after))
+  abbrev Met : Finding → Type 0
+  Met = Given (isHandleOf b handle) short offered l space w handle address
 
-  module _ (v : Window) (o : Open v) (h : HeldBy space handle address v) (n : IsContestedIn v → ⊥) where
-    -- the window without its mark, which the list has
-    clear-listed : In (withMark false v) l
-    clear-listed =
-        m .listed (withMark false v) .1 (
-          record { function = o .function; register = o .register; there = o .there; six = o .six; opened = o .opened; same = o .same },
-          ((λ e. absurd (false≢true e)), (λ t. absurd (n (t .0, t .1, remarked false (v .contested) v (t .0) (t .2))))),
-        )
+  -- what is found is found on its condition
+  given : (f : Finding) → Met f → Condition b w space handle address f
+  given (Refused BadHandle) g = g
+  given (Refused ShortCells) g = (g .0, ltb-true (length (b .cells)) (total k) (g .1))
+  given (Refused NotAligned) g = (g .0, ltb-false (length (b .cells)) (total k) (g .1), g .2)
+  given (Refused Nothing) g = (ready (g .0), none-open b w space handle address (g .1))
+  given (Refused Contested) g =
+      let f = first b w space handle address (g .0) (g .1 .first) in (ready (g .1 .asked), g .0, f .has, f .marked (g .2))
+  given (Refused WidthMissing) g =
+      let f = first b w space handle address (g .0) (g .1 .first) in
+      (ready (g .1 .asked), g .0, f .has, f .clear (g .2), (λ o. false≢true (sym (g .3) ∙ o)))
+  given (Refused PastBuffer) g = g
+  given (Found base distance remaining) g =
+      let f = first b w space handle address (g .0) (g .1 .first) in
+      (ready (g .1 .asked), g .0, f .has, f .clear (g .2), g .3, g .4, g .5, g .6)
 
-    held-clear : HeldBy space handle address (withMark false v)
-    held-clear = record { inSpace = h .inSpace; own = h .own; six = h .six; from = h .from; to = h .to }
+  abbrev finding : Finding
+  finding = findFor b w space handle address
 
-    module _ (u : Window) (f : FirstHolder space handle address l u) where
-      u-open : Open u
-      u-open = m .listed u .0 (listed u f) .0
-
-      -- the first holder is of the same base register, as another would contest it
-      same-base : u .base ≡ v .base
-      same-base =
-          ifEither (eqb (u .base) (v .base)) (λ e. eqb-true (u .base) (v .base) e)
-          (λ e.
-          absurd (n (
-            u,
-            u-open,
-            record {
-              other = λ a c. eqb-false (u .base) (v .base) e c;
-              space = f .holder .inSpace ∙ sym (h .inSpace);
-              address = address;
-              from-v = f .holder .from;
-              to-v = f .holder .to;
-              from-w = h .from;
-              to-w = h .to;
-            },
-          )))
-
-      same-window : withMark false u ≡ withMark false v
-      same-window = one-register u v u-open o (f .holder .own ∙ sym (h .own)) same-base
-
-      not-contested : u .contested ≡ true → ⊥
-      not-contested c =
-          let t = m .listed u .0 (listed u f) .1 .0 c in
-          n (t .0, t .1, remarked false (v .contested) v (t .0) (rw same-window at (remarked (u .contested) false u (t .0) (t .2))))
-
-  -- found: by a window for which all of it holds
-  through : (base distance remaining : ℕ) → findFor b w space handle address ≡ Found base distance remaining
-      → FoundThrough b w space handle address base distance remaining
-  through base distance remaining e =
-      let t = find-means (isHandleOf b handle) short offered l space w handle address (Found base distance remaining) .0 e in
-      let i = m .listed (t .0) .0 (listed (t .0) (t .1 .first)) in
-      record {
-        goodHandle = t .1 .asked .goodHandle;
-        enoughCells = ltb-false (length (b .cells)) (total k) (t .1 .asked .enoughCells);
-        multiple = t .1 .asked .multiple;
-        window = t .0;
-        opened = i .0;
-        holds = t .1 .first .holder;
-        clear = λ c. false≢true (sym (t .2) ∙ i .1 .1 c);
-        offered = t .3;
-        atBase = t .4;
-        fromStart = t .5;
-        toEnd = t .6;
-      }
-
-  -- and for such a window it is found
-  found-through : (base distance remaining : ℕ) → FoundThrough b w space handle address base distance remaining
-      → findFor b w space handle address ≡ Found base distance remaining
-  found-through base distance remaining t = by (findFor b w space handle address) refl (find-means (isHandleOf b handle) short offered l space w handle address _ .0 refl)
+  -- with an open window that holds the address a first one of the list is reached: it is contested, lacks the width, or is found
+  reach : {X : Type 0} → Ready b w space handle address → (v : Window) → Has v
+      → ((u : Window) → IsFirst u → u .contested ≡ true → finding ≡ Refused Contested → X)
+      → ((u : Window) → IsFirst u → u .contested ≡ false → offered (u .base) ≡ false → finding ≡ Refused WidthMissing → X)
+      → ((u : Window) → IsFirst u → u .contested ≡ false → offered (u .base) ≡ true
+      → finding ≡ Found (u .base) (address - u .start) (end u - address) → X)
+      → X
+  reach {X} r v h contested missing found = by finding refl (find-means (isHandleOf b handle) short offered l space w handle address finding .0 refl)
     where
-      by : (f : Finding) → findFor b w space handle address ≡ f → Given (isHandleOf b handle) short offered l space w handle address f
-          → findFor b w space handle address ≡ Found base distance remaining
-      by (Refused BadHandle) e g = absurd (false≢true (sym g ∙ t .goodHandle))
-      by (Refused ShortCells) e g = absurd (false≢true (sym (le-ltb (length (b .cells)) (total k) (t .enoughCells)) ∙ g .1))
-      by (Refused NotAligned) e g = absurd (g .2 (t .multiple))
-      by (Refused Nothing) e g =
-          absurd (g .1 (withMark false (t .window)) (clear-listed (t .window) (t .opened) (t .holds) (t .clear)) (held-clear (t .window) (t .opened) (t .holds) (t .clear)))
-      by (Refused IsContested) e g = absurd (not-contested (t .window) (t .opened) (t .holds) (t .clear) (g .0) (g .1 .first) (g .2))
-      by (Refused WidthMissing) e g =
-          let s = same-base (t .window) (t .opened) (t .holds) (t .clear) (g .0) (g .1 .first) in
-          absurd (false≢true (sym (rw s at (g .3)) ∙ t .offered))
+      by : (f : Finding) → finding ≡ f → Met f → X
+      by (Refused BadHandle) e g = absurd (false≢true (sym g ∙ r .goodHandle))
+      by (Refused ShortCells) e g = absurd (false≢true (sym (le-ltb (length (b .cells)) (total k) (r .enoughCells)) ∙ g .1))
+      by (Refused NotAligned) e g = absurd (g .2 (r .multiple))
+      by (Refused Nothing) e g = absurd (none-open b w space handle address (g .1) v h)
+      by (Refused Contested) e g = contested (g .0) (first b w space handle address (g .0) (g .1 .first)) (g .2) e
+      by (Refused WidthMissing) e g = missing (g .0) (first b w space handle address (g .0) (g .1 .first)) (g .2) (g .3) e
       by (Refused PastBuffer) e g = absurd g
-      by (Found base′ distance′ remaining′) e g =
-          let s = same-window (t .window) (t .opened) (t .holds) (t .clear) (g .0) (g .1 .first) in
-          let at-base : base′ ≡ base = g .4 ∙ ap (λ (x : Window). x .base) s ∙ sym (t .atBase) in
-          let from-start : distance′ ≡ distance = g .5 ∙ ap (λ (x : Window). address - x .start) s ∙ sym (t .fromStart) in
-          let to-end : remaining′ ≡ remaining = g .6 ∙ ap (λ (x : Window). end x - address) s ∙ sym (t .toEnd) in
-          e ∙ rw (at-base, from-start, to-end)
+      by (Found base distance remaining) e g = found (g .0) (first b w space handle address (g .0) (g .1 .first)) (g .2) (g .3) (e ∙ rw (g .4, g .5, g .6))
+
+  -- and on its condition it is found
+  found-on : (f : Finding) → Condition b w space handle address f → finding ≡ f
+  found-on (Refused BadHandle) c = find-means (isHandleOf b handle) short offered l space w handle address (Refused BadHandle) .1 c
+  found-on (Refused ShortCells) c =
+      find-means (isHandleOf b handle) short offered l space w handle address (Refused ShortCells) .1 (c .0, lt-ltb (length (b .cells)) (total k) (c .1))
+  found-on (Refused NotAligned) c =
+      find-means (isHandleOf b handle) short offered l space w handle address (Refused NotAligned) .1 (c .0, le-ltb (length (b .cells)) (total k) (c .1), c .2)
+  found-on (Refused Nothing) c =
+      find-means (isHandleOf b handle) short offered l space w handle address (Refused Nothing) .1
+      (asked (c .0), (λ v i h. c .1 v (record { opened = list-means (length (b .records)) k (b .registers) .listed v .0 i .0; holds = h })))
+  found-on (Refused Contested) c =
+      reach (c .0) (c .1) (c .2) (λ u f t e. e)
+      (λ u f t o e. absurd (f .clear t (f .also (c .1) (c .2) (c .3))))
+      (λ u f t o e. absurd (f .clear t (f .also (c .1) (c .2) (c .3))))
+  found-on (Refused WidthMissing) c =
+      reach (c .0) (c .1) (c .2) (λ u f t e. absurd (f .never (c .1) (c .2) (c .3) (f .marked t))) (λ u f t o e. e)
+      (λ u f t o e. absurd (c .4 (rw (f .base (c .1) (c .2) (c .3)) at o)))
+  found-on (Refused PastBuffer) c = absurd c
+  found-on (Found base distance remaining) c =
+      reach (c .0) (c .1) (c .2) (λ u f t e. absurd (f .never (c .1) (c .2) (c .3) (f .marked t)))
+      (λ u f t o e. absurd (false≢true (sym (rw (f .base (c .1) (c .2) (c .3)) at o) ∙ c .4)))
+      (λ u f t o e.
+      let s = f .window (c .1) (c .2) (c .3) in
+      let at-base : u .base ≡ base = ap (λ (x : Window). x .base) s ∙ sym (c .5) in
+      let from-start : address - u .start ≡ distance = ap (λ (x : Window). address - x .start) s ∙ sym (c .6) in
+      let to-end : end u - address ≡ remaining = ap (λ (x : Window). end x - address) s ∙ sym (c .7) in
+      e ∙ rw (at-base, from-start, to-end))
 
 pub found-exactly : FoundExactly
-found-exactly b w space handle address base distance remaining =
-    (through b w space handle address base distance remaining, found-through b w space handle address base distance remaining)
+found-exactly b w space handle address f = (
+  λ e. given b w space handle address f (find-means (isHandleOf b handle) (short b w space handle address) (offered b w space handle address) (windowsOf b) space w handle address f .0 e),
+  found-on b w space handle address f,
+)

@@ -31,5 +31,6 @@ pub mod Seen
 pub mod NonInterference
 pub mod Demand3
 pub mod SingleCalls
+pub mod Holders
 pub mod FoundWindow
 pub mod Rows
