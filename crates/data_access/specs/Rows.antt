@@ -10,7 +10,7 @@ use Rattle.board.specs.FromC.{widthFromC}
 use Rattle.board.specs.declared.read.Read.{Read}
 use Rattle.board.specs.declared.read.FastRead.{FastRead}
 use Rattle.window.specs.Kept.{pack}
-use Rattle.window.specs.Window.{Window}
+use Rattle.window.specs.Rows.{mem, clear, contested}
 use Rattle.data_access.specs.Data.{DataWritten, readData, fastReadData, writeData}
 use Rattle.data_access.specs.CCalls.{cReadData, cFastReadData, cWriteData}
 
@@ -34,24 +34,13 @@ records =
     replicate 512 0
     ++ (4 ∷ 1 ∷ 7 ∷ 0 ∷ 4 ∷ 2 ∷ 7 ∷ 0 ∷ 4 ∷ 0 ∷ 7 ∷ 0 ∷ 4 ∷ 0 ∷ 1 ∷ 0 ∷ replicate 16 0)
 
-abbrev window : ℕ → ℕ → Bool → Window
-window start base contested =
-    record {
-      space = 0;
-      start = start;
-      length = 16;
-      handle = 1;
-      base = base;
-      contested = contested;
-    }
-
 abbrev windows : List ℕ
 windows =
     map pack
-    (window 0x80000000 0 false
-    ∷ window 0x88000000 1 false
-    ∷ window 0x90000000 2 true
-    ∷ window 0xA0000000 3 false
+    (mem 0x80000000 16 1 0 clear
+    ∷ mem 0x88000000 16 1 1 clear
+    ∷ mem 0x90000000 16 1 2 contested
+    ∷ mem 0xA0000000 16 1 3 clear
     ∷ [])
 
 abbrev offsets : List ℕ

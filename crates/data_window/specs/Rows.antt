@@ -9,6 +9,7 @@ use lib.ListN.{getD, replicate}
 use Rattle.board.specs.Statuses.{minus}
 use Rattle.window.specs.Kept.{pack}
 use Rattle.window.specs.Window.{Window}
+use Rattle.window.specs.Rows.{mem, io, clear, contested}
 use Rattle.data_window.specs.declared.find.Finding.{Finding}
 use Rattle.data_window.specs.declared.find.Finding.the-variants.{Found, Refused}
 use Rattle.data_window.specs.declared.refusal.DataRefusal.the-variants.{
@@ -26,27 +27,16 @@ use Rattle.data_window.specs.Find.{offers, find, statusOf, findIn}
 abbrev someWidths : List ℕ
 someWidths = 1 ∷ 2 ∷ 4 ∷ 3 ∷ 6 ∷ 7 ∷ 0 ∷ 8 ∷ 12 ∷ []
 
-abbrev window : ℕ → ℕ → ℕ → ℕ → ℕ → Bool → Window
-window space start length handle base contested =
-    record {
-      space = space;
-      start = start;
-      length = length;
-      handle = handle;
-      base = base;
-      contested = contested;
-    }
-
 -- memory windows of handles 1 and 2, of which two are at one place and one ends at 2^32, and an I/O
 -- window of handle 2
 abbrev list : List Window
 list =
-    window 0 0x80000000 0x400 1 0 false
-    ∷ window 0 0x80000400 0x400 2 0 false
-    ∷ window 0 0x90000000 0x100 1 1 true
-    ∷ window 0 0x90000000 0x100 2 2 true
-    ∷ window 0 0xFFFFFF00 0x100 1 2 false
-    ∷ window 1 0x100 0x10 2 1 false
+    mem 0x80000000 0x400 1 0 clear
+    ∷ mem 0x80000400 0x400 2 0 clear
+    ∷ mem 0x90000000 0x100 1 1 contested
+    ∷ mem 0x90000000 0x100 2 2 contested
+    ∷ mem 0xFFFFFF00 0x100 1 2 clear
+    ∷ io 0x100 0x10 2 1 clear
     ∷ []
 
 -- what is found there, where base registers 0 and 2 of both offer all widths and 1 bytes alone
@@ -101,7 +91,7 @@ pub record DataWindowRows : Type 0 where
       ≡ Refused Nothing ∷ Found 2 0 0x100 ∷ Found 2 0xFF 1 ∷ Refused Nothing ∷ []
   -- a function has six base registers
   pub sixBases :
-      map (λ b. find true false (λ c. true) (window 0 0x100 0x10 1 b false ∷ []) 0 1 1 0x100)
+      map (λ b. find true false (λ c. true) (mem 0x100 0x10 1 b clear ∷ []) 0 1 1 0x100)
       (5 ∷ 6 ∷ [])
       ≡ Found 5 0 0x10 ∷ Refused Nothing ∷ []
   -- the number of each refusal, in the order of the checks; a cell past the buffer answers -7

@@ -17,7 +17,7 @@ use Rattle.interrupt_array.specs.Hooks.{
 }
 
 -- a loaded record with a line at 3Ch and a pin at 3Dh, and other bytes beside them
-abbrev loaded : ℕ → ℕ → List ℕ
+abbrev pub loaded : ℕ → ℕ → List ℕ
 loaded line pin = replicate 0x3B 0 ++ (0xEE ∷ line ∷ pin ∷ 0xEE ∷ replicate 481 0)
 
 -- three functions: handles 1 and 3 on line 5, handle 2 on line 15

@@ -8,6 +8,7 @@ use lib.IntN.{pos}
 use lib.ListN.{replicate}
 use Rattle.board.specs.Statuses.{minus}
 use Rattle.interrupt_array.specs.Hooks.{Hook, hook, chainOf}
+use Rattle.interrupt_array.specs.Rows.{loaded}
 use Rattle.interrupt_hook.specs.Chain.{
   HookOutcome,
   hookOutcome,
@@ -15,10 +16,6 @@ use Rattle.interrupt_hook.specs.Chain.{
   unhookInterrupt,
 }
 use Rattle.interrupt_hook.specs.Meaning.{hooking, unhooking, arrayAfter, isAmong, without}
-
--- a loaded record with a line at 3Ch and a pin at 3Dh
-abbrev loaded : ℕ → ℕ → List ℕ
-loaded line pin = replicate 0x3C 0 ++ (line ∷ pin ∷ replicate 482 0)
 
 -- boards of one function and of four: handles 1 and 2 on line 5, handle 3 on line 3, 4 on line 15
 abbrev one : List ℕ

@@ -1,5 +1,5 @@
 -- The laws, and the proofs of the claims: first of claim 2, then of 1, 3 and 4, of which the last
--- two stand on it.
+-- two stand on it. After them laws of single calls and the rows.
 pub mod Tests
 pub mod Records
 pub mod Registers

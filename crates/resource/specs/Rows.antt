@@ -1,14 +1,13 @@
 -- Rows with literal numbers of document 01, "Numbers handed back", Resource, and "Descriptors": the
 -- calls of a small board.
 use Prim.Native.Nat.{ℕ}
-use mathlib.Core.Bool.{Bool, true, false}
 use mathlib.Core.List.{List, [], _∷_, _++_, map}
 use mathlib.Core.Path.{_≡_}
 use lib.IntN.{pos, negℤ}
 use lib.ListN.{getD, replicate}
 use Rattle.board.specs.Statuses.{minus}
 use Rattle.window.specs.Kept.{pack}
-use Rattle.window.specs.Window.{Window}
+use Rattle.window.specs.Rows.{mem, clear, contested}
 use Rattle.resource_descriptor.specs.declared.descriptor.Descriptor.{Descriptor}
 use Rattle.resource.specs.Resource.{
   windowBases,
@@ -39,26 +38,15 @@ registers =
     ++ (0 ∷ 4 ∷ 0 ∷ 0x80 ∷ 0 ∷ 0 ∷ 0 ∷ 0 ∷ 0 ∷ 0 ∷ 0 ∷ 0xC0
     ∷ 0 ∷ 0 ∷ 0 ∷ 0xA0 ∷ 0 ∷ 0 ∷ 0 ∷ 0 ∷ 1 ∷ 0x20 ∷ 0 ∷ 0 ∷ replicate 472 0)))
 
--- the open windows: start, length, handle, base register, contested
-abbrev memory : ℕ → ℕ → ℕ → ℕ → Bool → Window
-memory start length handle base contested =
-    record {
-      space = 0;
-      start = start;
-      length = length;
-      handle = handle;
-      base = base;
-      contested = contested;
-    }
-
+-- the open windows: start, length, handle, base register, mark
 abbrev windows : List ℕ
 windows =
     map pack
-    (memory 0x40000000 0x400 1 0 false
-    ∷ memory 0x80000400 0x400 2 0 false
-    ∷ memory 0xA0000000 0x10 2 3 false
-    ∷ memory 0xC0000000 0x10000 1 2 true
-    ∷ memory 0xC0000000 0x10000 2 2 true
+    (mem 0x40000000 0x400 1 0 clear
+    ∷ mem 0x80000400 0x400 2 0 clear
+    ∷ mem 0xA0000000 0x10 2 3 clear
+    ∷ mem 0xC0000000 0x10000 1 2 contested
+    ∷ mem 0xC0000000 0x10000 2 2 contested
     ∷ [])
 
 abbrev called : ℕ → List ℕ → ResourceOutcome
