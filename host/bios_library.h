@@ -19,9 +19,9 @@
 /* ---- Searches and configuration (config_exports.rt) ---- */
 
 int32_t bios_find_pci_device(const uint32_t *header, const uint8_t *registers, uint32_t id,
-                             uint32_t index);
+                             uint32_t index, uint32_t edition);
 int32_t bios_find_pci_classcode(const uint32_t *header, const uint8_t *registers,
-                                uint32_t class_code, uint32_t index);
+                                uint32_t class_code, uint32_t index, uint32_t edition);
 int32_t bios_read_config(const uint32_t *header, const uint8_t *registers, uint32_t width,
                          uint32_t handle, uint8_t reg, uint32_t *value);
 uint32_t bios_fast_read_config(const uint32_t *header, const uint8_t *registers, uint32_t width,
@@ -35,15 +35,15 @@ int32_t bios_write_config(const uint32_t *header, const uint8_t *records, uint8_
 int32_t bios_read_data(const uint32_t *header, const uint8_t *records, const uint64_t *windows,
                        const uint32_t *cell_offsets, const uint8_t *cells, size_t cells_length,
                        uint32_t io, uint32_t width, uint32_t handle, uint32_t address,
-                       uint32_t *value);
+                       uint32_t edition, uint32_t *value);
 uint32_t bios_fast_read_data(const uint32_t *header, const uint8_t *records,
                              const uint64_t *windows, const uint32_t *cell_offsets,
                              const uint8_t *cells, size_t cells_length, uint32_t io, uint32_t width,
-                             uint32_t handle, uint32_t address, uint32_t *fault);
+                             uint32_t handle, uint32_t address, uint32_t edition, uint32_t *fault);
 int32_t bios_write_data(const uint32_t *header, const uint8_t *records, const uint64_t *windows,
                         const uint32_t *cell_offsets, uint8_t *cells, size_t cells_length,
                         uint32_t io, uint32_t width, uint32_t handle, uint32_t address,
-                        uint32_t value);
+                        uint32_t value, uint32_t edition);
 int32_t bios_bus_to_cpu(const uint32_t *header, const uint8_t *records, uint32_t handle,
                         uint32_t address, uint32_t *cpu);
 int32_t bios_cpu_to_bus(const uint32_t *header, const uint8_t *records, uint32_t handle,

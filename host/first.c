@@ -20,13 +20,14 @@ static void list_memory(void) {
 
 /* A bin is a longword of the card's memory window. */
 static int32_t put_bin(int32_t card, uint32_t start, uint32_t bin, uint32_t samples) {
-    return pci_write_data(&board, cells, sizeof cells, 0, 4, card, start + 4 * bin, samples);
+    return pci_write_data(&board, cells, sizeof cells, 0, 4, card, start + 4 * bin, samples,
+                          PCI_LATER_TEXT);
 }
 
 static void show_bin(int32_t card, uint32_t start, uint32_t bin) {
     uint32_t samples;
-    int32_t number =
-        pci_read_data(&board, cells, sizeof cells, 0, 4, card, start + 4 * bin, &samples);
+    int32_t number = pci_read_data(&board, cells, sizeof cells, 0, 4, card, start + 4 * bin,
+                                   PCI_LATER_TEXT, &samples);
     printf("handle %" PRId32 ", bin %" PRIu32 ": read %" PRId32 ", samples %" PRIu32 "\n", card,
            bin, number, samples);
 }
@@ -39,8 +40,8 @@ int main(void) {
     list_memory();
 
     /* A card that is not found has a negative number, and no call takes that for a handle. */
-    int32_t first = pci_find_device(&board, 0x00010F0F, 0);
-    int32_t second = pci_find_device(&board, 0x00010F0F, 1);
+    int32_t first = pci_find_device(&board, 0x00010F0F, 0, PCI_LATER_TEXT);
+    int32_t second = pci_find_device(&board, 0x00010F0F, 1, PCI_LATER_TEXT);
     printf("found %" PRId32 " and %" PRId32 "\n", first, second);
     pci_read_config(&board, 4, first, 0x10, &first_start);
     pci_read_config(&board, 4, second, 0x10, &second_start);

@@ -49,6 +49,12 @@ const struct pci_recorder *pci_recorder;
 /* The field of a call that takes cells. */
 #define CELLS(start, length) .cells = &(struct pci_lent){start, length}
 
+/* An edition as a script says it, 0 and 2 exchanged: there 0 is the later text, which all calls
+   were written to before they named one. */
+static uint32_t script_edition(uint32_t edition) {
+    return edition == 0 || edition == PCI_LATER_TEXT ? PCI_LATER_TEXT - edition : edition;
+}
+
 /* Tells the recorder of the answer: the number, whether the call was refused, up to six values. */
 #define ANSWER(on, number, refused, ...)                                                    \
     do {                                                                                    \
@@ -142,16 +148,19 @@ int32_t pci_list_window(const struct pci_board *board, uint32_t n, struct pci_wi
     return number;
 }
 
-int32_t pci_find_device(const struct pci_board *board, uint32_t id, uint32_t index) {
-    CALL(board, OP_FIND_PCI_DEVICE, .a = id, .b = index);
-    int32_t number = bios_find_pci_device(board->header, board->registers, id, index);
+int32_t pci_find_device(const struct pci_board *board, uint32_t id, uint32_t index,
+                        uint32_t edition) {
+    CALL(board, OP_FIND_PCI_DEVICE, .a = id, .b = index, .c = script_edition(edition));
+    int32_t number = bios_find_pci_device(board->header, board->registers, id, index, edition);
     ANSWER(board, number, number < 0, 0);
     return number;
 }
 
-int32_t pci_find_class(const struct pci_board *board, uint32_t class_code, uint32_t index) {
-    CALL(board, OP_FIND_PCI_CLASSCODE, .a = class_code, .b = index);
-    int32_t number = bios_find_pci_classcode(board->header, board->registers, class_code, index);
+int32_t pci_find_class(const struct pci_board *board, uint32_t class_code, uint32_t index,
+                       uint32_t edition) {
+    CALL(board, OP_FIND_PCI_CLASSCODE, .a = class_code, .b = index, .c = script_edition(edition));
+    int32_t number =
+        bios_find_pci_classcode(board->header, board->registers, class_code, index, edition);
     ANSWER(board, number, number < 0, 0);
     return number;
 }
@@ -187,40 +196,44 @@ int32_t pci_write_config(struct pci_board *board, unsigned width, uint32_t handl
 }
 
 int32_t pci_read_data(const struct pci_board *board, const uint8_t *cells, size_t cells_length,
-                      int io, unsigned width, uint32_t handle, uint32_t address, uint32_t *value) {
+                      int io, unsigned width, uint32_t handle, uint32_t address, uint32_t edition,
+                      uint32_t *value) {
     LENT({board, sizeof *board}, {cells, cells_length}, {value, sizeof *value});
     CALL(board, OP_READ_DATA, .width = width, .io = io, .handle = handle, .a = address,
-         CELLS(cells, cells_length));
-    int32_t number = bios_read_data(board->header, board->records, board->windows,
-                                    board->cell_offsets, given_const(cells, cells_length),
-                                    cells_length, (uint32_t)io, width, handle, address, value);
+         .c = script_edition(edition), CELLS(cells, cells_length));
+    int32_t number =
+        bios_read_data(board->header, board->records, board->windows, board->cell_offsets,
+                       given_const(cells, cells_length), cells_length, (uint32_t)io, width, handle,
+                       address, edition, value);
     ANSWER(board, number, number != 0, *value);
     return number;
 }
 
 uint32_t pci_fast_read_data(const struct pci_board *board, const uint8_t *cells,
                             size_t cells_length, int io, unsigned width, uint32_t handle,
-                            uint32_t address, int *fault) {
+                            uint32_t address, uint32_t edition, int *fault) {
     LENT({board, sizeof *board}, {cells, cells_length}, {fault, sizeof *fault});
     CALL(board, OP_FAST_READ_DATA, .width = width, .io = io, .handle = handle, .a = address,
-         CELLS(cells, cells_length));
+         .c = script_edition(edition), CELLS(cells, cells_length));
     uint32_t flag;
-    uint32_t value = bios_fast_read_data(board->header, board->records, board->windows,
-                                         board->cell_offsets, given_const(cells, cells_length),
-                                         cells_length, (uint32_t)io, width, handle, address, &flag);
+    uint32_t value =
+        bios_fast_read_data(board->header, board->records, board->windows, board->cell_offsets,
+                            given_const(cells, cells_length), cells_length, (uint32_t)io, width,
+                            handle, address, edition, &flag);
     ANSWER(board, 0, (int)flag, value);
     *fault = (int)flag;
     return value;
 }
 
 int32_t pci_write_data(struct pci_board *board, uint8_t *cells, size_t cells_length, int io,
-                       unsigned width, uint32_t handle, uint32_t address, uint32_t value) {
+                       unsigned width, uint32_t handle, uint32_t address, uint32_t value,
+                       uint32_t edition) {
     LENT({board, sizeof *board}, {cells, cells_length});
     CALL(board, OP_WRITE_DATA, .width = width, .io = io, .handle = handle, .a = address, .b = value,
-         CELLS(cells, cells_length));
+         .c = script_edition(edition), CELLS(cells, cells_length));
     int32_t number = bios_write_data(board->header, board->records, board->windows,
                                      board->cell_offsets, given(cells, cells_length), cells_length,
-                                     (uint32_t)io, width, handle, address, value);
+                                     (uint32_t)io, width, handle, address, value, edition);
     ANSWER(board, number, number != 0, 0);
     return number;
 }

@@ -55,14 +55,23 @@ int32_t pci_write_image(const struct pci_board *board, uint8_t *out, size_t leng
 /* Window n of the list, from 0: 0, or -4 and zeros past the end. */
 int32_t pci_list_window(const struct pci_board *board, uint32_t n, struct pci_window *window);
 
-/* The handle of the match with `index` matches before it, or -4 where there are no more. An ID is
-   the device in bits 31..16 and the vendor in 15..0; vendor FFFFh matches every function,
-   whatever the device. */
-int32_t pci_find_device(const struct pci_board *board, uint32_t id, uint32_t index);
+/* Searches and data calls name the edition of the text that their arguments are written to. Any
+   other number than these two is refused with -2 before all else; 102h is not 2. */
+#define PCI_DRAFT_1_9 1u
+#define PCI_LATER_TEXT 2u
 
-/* The same for a class code in bits 23..0; bits 26, 25, 24 set mean ignore its base class,
-   sub class, interface. */
-int32_t pci_find_class(const struct pci_board *board, uint32_t class_code, uint32_t index);
+/* The handle of the match with `index` matches before it. In the later text an ID is the device in
+   bits 31..16 and the vendor in 15..0; vendor FFFFh matches every function, whatever the device.
+   In draft 1.9 it is the vendor in bits 31..16 and the device in 15..0. Refusals, the first that
+   applies: -2 another edition, -3 vendor FFFFh in draft 1.9, -4 no more matches. */
+int32_t pci_find_device(const struct pci_board *board, uint32_t id, uint32_t index,
+                        uint32_t edition);
+
+/* The same for a class code in bits 23..0. In the later text bits 26, 25, 24 set mean ignore its
+   base class, sub class, interface, and bits 31..27 play no part; in draft 1.9 bits 31..24 play
+   none. Refusals: -2 another edition, -4 no more matches. */
+int32_t pci_find_class(const struct pci_board *board, uint32_t class_code, uint32_t index,
+                       uint32_t edition);
 
 /* Configuration calls: the width is 1, 2 or 4 bytes, least byte first. Their refusals, the first
    that applies: -8 another width, -9 a bad handle, -5 a register that is not a multiple of
@@ -83,27 +92,31 @@ uint32_t pci_fast_read_config(const struct pci_board *board, unsigned width, uin
 int32_t pci_write_config(struct pci_board *board, unsigned width, uint32_t handle, uint8_t reg,
                          uint32_t value);
 
-/* Data calls: a PCI bus address in memory (io 0) or I/O (any other io), the width is 1, 2 or 4
-   bytes. The cells are the buffer that was lent to the load; the window's byte order says which of
-   them an access means. Their refusals, the first that applies: -8 another width, -9 a bad handle,
-   -7 cells shorter than the board's total, -8 an address that is not a multiple of the width,
+/* Data calls: an address in memory (io 0) or I/O (any other io), the width is 1, 2 or 4 bytes. In
+   the later text the address is a PCI bus address; in draft 1.9 it is a physical CPU address, and
+   the bus address is that less the offset of the handle's function, modulo 2^32. The cells are the
+   buffer that was lent to the load; the window's byte order says which of them an access means.
+   Their refusals, the first that applies: -2 another edition, -8 another width, -9 a bad handle,
+   -7 cells shorter than the board's total, -8 a bus address that is not a multiple of the width,
    -8 one that no open window of this very handle holds in that space, -8 a contested window,
    -2 a width that the window does not offer. */
 
 /* The value at an address: 0, or a refusal and the value 0. */
 int32_t pci_read_data(const struct pci_board *board, const uint8_t *cells, size_t cells_length,
-                      int io, unsigned width, uint32_t handle, uint32_t address, uint32_t *value);
+                      int io, unsigned width, uint32_t handle, uint32_t address, uint32_t edition,
+                      uint32_t *value);
 
 /* The value itself, with fault 0; where the read is refused all ones of its width, with fault 1.
    Another width than 1, 2 or 4 gives FFFFFFFFh. */
 uint32_t pci_fast_read_data(const struct pci_board *board, const uint8_t *cells,
                             size_t cells_length, int io, unsigned width, uint32_t handle,
-                            uint32_t address, int *fault);
+                            uint32_t address, uint32_t edition, int *fault);
 
 /* Writes the low bytes of the value, so that the same read gives them back: 0, or a refusal that
    changes nothing. Only the cells of its width change. */
 int32_t pci_write_data(struct pci_board *board, uint8_t *cells, size_t cells_length, int io,
-                       unsigned width, uint32_t handle, uint32_t address, uint32_t value);
+                       unsigned width, uint32_t handle, uint32_t address, uint32_t value,
+                       uint32_t edition);
 
 /* Conversions of any address by the offset of a handle's function, modulo 2^32: 0, or -9 and
    the address 0. */

@@ -2,6 +2,11 @@
    a board has numbers. */
 #include <string.h>
 #include "pci_bios.h"
+
+/* The functions of both editions stand here under their own names, whatever edition a program is
+   compiled with. */
+#undef PCI_DRIVER_EDITION
+#define PCI_DRIVER_EDITION 2
 #include "pci_driver.h"
 
 enum space { MEMORY, IO };
@@ -35,11 +40,19 @@ static struct kept *kept_of(ULONG handle) {
 }
 
 LONG find_pci_device(ULONG id, UWORD index) {
-    return pci_find_device(board, id, index);
+    return pci_find_device(board, id, index, PCI_LATER_TEXT);
+}
+
+LONG draft_find_pci_device(ULONG id, UWORD index) {
+    return pci_find_device(board, id, index, PCI_DRAFT_1_9);
 }
 
 LONG find_pci_classcode(ULONG classcode, UWORD index) {
-    return pci_find_class(board, classcode, index);
+    return pci_find_class(board, classcode, index, PCI_LATER_TEXT);
+}
+
+LONG draft_find_pci_classcode(ULONG classcode, UWORD index) {
+    return pci_find_class(board, classcode, index, PCI_DRAFT_1_9);
 }
 
 LONG read_config_byte(LONG handle, UBYTE reg, UBYTE *address) {
@@ -158,109 +171,77 @@ LONG set_card_used(LONG handle, pci_callback *callback) {
     return number;
 }
 
-static LONG read_data(enum space space, unsigned width, LONG handle, ULONG address,
-                      uint32_t *value) {
-    return pci_read_data(board, cells, cells_length, space, width, (uint32_t)handle, address,
-                         value);
+static LONG write_data(enum space space, unsigned width, LONG handle, ULONG address, ULONG data,
+                       uint32_t edition) {
+    return pci_write_data(board, cells, cells_length, space, width, (uint32_t)handle, address, data,
+                          edition);
 }
 
-static LONG write_data(enum space space, unsigned width, LONG handle, ULONG address, ULONG data) {
-    return pci_write_data(board, cells, cells_length, space, width, (uint32_t)handle, address,
-                          data);
-}
+/* There are 36 data calls, by space, width and edition. What those of a kind share stands once, in
+   one of the next four; below them each has a line. The type says the width. */
 
-static ULONG fast_read_data(enum space space, unsigned width, LONG handle, ULONG address) {
-    int fault;
-    return pci_fast_read_data(board, cells, cells_length, space, width, (uint32_t)handle, address,
-                              &fault);
-}
+#define READ(name, space, type, edition)                                             \
+    LONG name(LONG handle, ULONG address, type *data) {                              \
+        uint32_t value;                                                              \
+        LONG number = pci_read_data(board, cells, cells_length, space, sizeof *data, \
+                                    (uint32_t)handle, address, edition, &value);     \
+        *data = (type)value;                                                         \
+        return number;                                                               \
+    }
 
-LONG read_mem_byte(LONG handle, ULONG address, UBYTE *data) {
-    uint32_t value;
-    LONG number = read_data(MEMORY, 1, handle, address, &value);
-    *data = (UBYTE)value;
-    return number;
-}
+#define FAST_READ(name, space, type, edition)                                            \
+    type name(LONG handle, ULONG address) {                                              \
+        int fault;                                                                       \
+        return (type)pci_fast_read_data(board, cells, cells_length, space, sizeof(type), \
+                                        (uint32_t)handle, address, edition, &fault);     \
+    }
 
-LONG read_mem_word(LONG handle, ULONG address, UWORD *data) {
-    uint32_t value;
-    LONG number = read_data(MEMORY, 2, handle, address, &value);
-    *data = (UWORD)value;
-    return number;
-}
+#define WRITE(name, space, type)                                                      \
+    LONG name(LONG handle, ULONG address, type data) {                                \
+        return write_data(space, sizeof data, handle, address, data, PCI_LATER_TEXT); \
+    }
 
-LONG read_mem_longword(LONG handle, ULONG address, ULONG *data) {
-    uint32_t value;
-    LONG number = read_data(MEMORY, 4, handle, address, &value);
-    *data = (ULONG)value;
-    return number;
-}
+/* The draft's writes differ in what they are handed. */
+#define DRAFT_WRITE(name, space, type)                                                 \
+    LONG name(LONG handle, ULONG address, const type *data) {                          \
+        return write_data(space, sizeof *data, handle, address, *data, PCI_DRAFT_1_9); \
+    }
 
-LONG write_mem_byte(LONG handle, ULONG address, UBYTE data) {
-    return write_data(MEMORY, 1, handle, address, data);
-}
+READ(read_mem_byte, MEMORY, UBYTE, PCI_LATER_TEXT)
+READ(read_mem_word, MEMORY, UWORD, PCI_LATER_TEXT)
+READ(read_mem_longword, MEMORY, ULONG, PCI_LATER_TEXT)
+READ(read_io_byte, IO, UBYTE, PCI_LATER_TEXT)
+READ(read_io_word, IO, UWORD, PCI_LATER_TEXT)
+READ(read_io_longword, IO, ULONG, PCI_LATER_TEXT)
+READ(draft_read_mem_byte, MEMORY, UBYTE, PCI_DRAFT_1_9)
+READ(draft_read_mem_word, MEMORY, UWORD, PCI_DRAFT_1_9)
+READ(draft_read_mem_longword, MEMORY, ULONG, PCI_DRAFT_1_9)
+READ(draft_read_io_byte, IO, UBYTE, PCI_DRAFT_1_9)
+READ(draft_read_io_word, IO, UWORD, PCI_DRAFT_1_9)
+READ(draft_read_io_longword, IO, ULONG, PCI_DRAFT_1_9)
 
-LONG write_mem_word(LONG handle, ULONG address, UWORD data) {
-    return write_data(MEMORY, 2, handle, address, data);
-}
+FAST_READ(fast_read_mem_byte, MEMORY, UBYTE, PCI_LATER_TEXT)
+FAST_READ(fast_read_mem_word, MEMORY, UWORD, PCI_LATER_TEXT)
+FAST_READ(fast_read_mem_longword, MEMORY, ULONG, PCI_LATER_TEXT)
+FAST_READ(fast_read_io_byte, IO, UBYTE, PCI_LATER_TEXT)
+FAST_READ(fast_read_io_word, IO, UWORD, PCI_LATER_TEXT)
+FAST_READ(fast_read_io_longword, IO, ULONG, PCI_LATER_TEXT)
+FAST_READ(draft_fast_read_mem_byte, MEMORY, UBYTE, PCI_DRAFT_1_9)
+FAST_READ(draft_fast_read_mem_word, MEMORY, UWORD, PCI_DRAFT_1_9)
+FAST_READ(draft_fast_read_mem_longword, MEMORY, ULONG, PCI_DRAFT_1_9)
+FAST_READ(draft_fast_read_io_byte, IO, UBYTE, PCI_DRAFT_1_9)
+FAST_READ(draft_fast_read_io_word, IO, UWORD, PCI_DRAFT_1_9)
+FAST_READ(draft_fast_read_io_longword, IO, ULONG, PCI_DRAFT_1_9)
 
-LONG write_mem_longword(LONG handle, ULONG address, ULONG data) {
-    return write_data(MEMORY, 4, handle, address, data);
-}
-
-LONG read_io_byte(LONG handle, ULONG address, UBYTE *data) {
-    uint32_t value;
-    LONG number = read_data(IO, 1, handle, address, &value);
-    *data = (UBYTE)value;
-    return number;
-}
-
-LONG read_io_word(LONG handle, ULONG address, UWORD *data) {
-    uint32_t value;
-    LONG number = read_data(IO, 2, handle, address, &value);
-    *data = (UWORD)value;
-    return number;
-}
-
-LONG read_io_longword(LONG handle, ULONG address, ULONG *data) {
-    uint32_t value;
-    LONG number = read_data(IO, 4, handle, address, &value);
-    *data = (ULONG)value;
-    return number;
-}
-
-LONG write_io_byte(LONG handle, ULONG address, UBYTE data) {
-    return write_data(IO, 1, handle, address, data);
-}
-
-LONG write_io_word(LONG handle, ULONG address, UWORD data) {
-    return write_data(IO, 2, handle, address, data);
-}
-
-LONG write_io_longword(LONG handle, ULONG address, ULONG data) {
-    return write_data(IO, 4, handle, address, data);
-}
-
-UBYTE fast_read_mem_byte(LONG handle, ULONG address) {
-    return (UBYTE)fast_read_data(MEMORY, 1, handle, address);
-}
-
-UWORD fast_read_mem_word(LONG handle, ULONG address) {
-    return (UWORD)fast_read_data(MEMORY, 2, handle, address);
-}
-
-ULONG fast_read_mem_longword(LONG handle, ULONG address) {
-    return (ULONG)fast_read_data(MEMORY, 4, handle, address);
-}
-
-UBYTE fast_read_io_byte(LONG handle, ULONG address) {
-    return (UBYTE)fast_read_data(IO, 1, handle, address);
-}
-
-UWORD fast_read_io_word(LONG handle, ULONG address) {
-    return (UWORD)fast_read_data(IO, 2, handle, address);
-}
-
-ULONG fast_read_io_longword(LONG handle, ULONG address) {
-    return (ULONG)fast_read_data(IO, 4, handle, address);
-}
+WRITE(write_mem_byte, MEMORY, UBYTE)
+WRITE(write_mem_word, MEMORY, UWORD)
+WRITE(write_mem_longword, MEMORY, ULONG)
+WRITE(write_io_byte, IO, UBYTE)
+WRITE(write_io_word, IO, UWORD)
+WRITE(write_io_longword, IO, ULONG)
+DRAFT_WRITE(draft_write_mem_byte, MEMORY, UBYTE)
+DRAFT_WRITE(draft_write_mem_word, MEMORY, UWORD)
+DRAFT_WRITE(draft_write_mem_longword, MEMORY, ULONG)
+DRAFT_WRITE(draft_write_io_byte, IO, UBYTE)
+DRAFT_WRITE(draft_write_io_word, IO, UWORD)
+DRAFT_WRITE(draft_write_io_longword, IO, ULONG)

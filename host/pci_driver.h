@@ -7,9 +7,20 @@
 #include <stdint.h>
 
 /* Names and types are those of document 003; where it gives no prototype they follow its others and
-   the registers of documents 000 and 001. The calls are plain functions: the cookie's table, the
-   register parameters and supervisor mode are the machine's. This layer keeps one current board, so
-   it is for one thread; pci_bios.h takes any board. */
+   the registers of documents 000 and 001. The calls are plain functions; pci_cookie.h has the table
+   of draft 1.9. Register parameters and supervisor mode are the machine's. This layer keeps one
+   current board, so it is for one thread; pci_bios.h takes any board. */
+
+/* The text that a driver was written to: 1 is draft 1.9 (document 000), 2 the later one (001, 003).
+   A driver of the draft defines it as 1 before it includes this header, and has the same names with
+   the draft's meaning, which stands at the end; drivers of both texts link into one program. A
+   definition without a value counts as 0. */
+#ifndef PCI_DRIVER_EDITION
+#define PCI_DRIVER_EDITION 2
+#endif
+#if PCI_DRIVER_EDITION + 0 != 1 && PCI_DRIVER_EDITION + 0 != 2
+#error "PCI_DRIVER_EDITION is 1 (draft 1.9) or 2 (the later text), and nothing else"
+#endif
 
 /* A driver that has these types defines PCI_DRIVER_TYPES; they must have 32, 32, 16 and 8 bits. */
 #ifndef PCI_DRIVER_TYPES
@@ -26,6 +37,7 @@ typedef char pci_driver_words[sizeof(UWORD) == 2 && sizeof(UBYTE) == 1 ? 1 : -1]
 
 #define PCI_SUCCESSFUL 0
 #define PCI_FUNC_NOT_SUPPORTED (-2)
+#define PCI_BAD_VENDOR_ID (-3)
 #define PCI_DEVICE_NOT_FOUND (-4)
 #define PCI_BAD_REGISTER_NUMBER (-5)
 #define PCI_SET_FAILED (-6)
@@ -60,7 +72,7 @@ struct pci_board;
    and call-backs are forgotten: what the board has of them already is listed with NULL. */
 void pci_use_board(struct pci_board *board, uint8_t *cells, size_t cells_length);
 
-/* A handle, or PCI_DEVICE_NOT_FOUND. */
+/* A handle, or PCI_DEVICE_NOT_FOUND. An ID has the device in bits 31..16, the vendor in 15..0. */
 LONG find_pci_device(ULONG id, UWORD index);
 LONG find_pci_classcode(ULONG classcode, UWORD index);
 
@@ -128,5 +140,56 @@ ULONG fast_read_mem_longword(LONG handle, ULONG address);
 UBYTE fast_read_io_byte(LONG handle, ULONG address);
 UWORD fast_read_io_word(LONG handle, ULONG address);
 ULONG fast_read_io_longword(LONG handle, ULONG address);
+
+/* The searches and data calls as draft 1.9 has them; all other calls are alike in both texts. An ID
+   has the vendor in bits 31..16, the device in 15..0; vendor FFFFh is PCI_BAD_VENDOR_ID. Of a class
+   code bits 31..24 play no part. Addresses are physical CPU addresses: a descriptor's `start` plus
+   its `offset`. A write takes a pointer to its data, as a read does (document 000, 3.12). */
+LONG draft_find_pci_device(ULONG id, UWORD index);
+LONG draft_find_pci_classcode(ULONG classcode, UWORD index);
+LONG draft_read_mem_byte(LONG handle, ULONG address, UBYTE *data);
+LONG draft_read_mem_word(LONG handle, ULONG address, UWORD *data);
+LONG draft_read_mem_longword(LONG handle, ULONG address, ULONG *data);
+LONG draft_write_mem_byte(LONG handle, ULONG address, const UBYTE *data);
+LONG draft_write_mem_word(LONG handle, ULONG address, const UWORD *data);
+LONG draft_write_mem_longword(LONG handle, ULONG address, const ULONG *data);
+LONG draft_read_io_byte(LONG handle, ULONG address, UBYTE *data);
+LONG draft_read_io_word(LONG handle, ULONG address, UWORD *data);
+LONG draft_read_io_longword(LONG handle, ULONG address, ULONG *data);
+LONG draft_write_io_byte(LONG handle, ULONG address, const UBYTE *data);
+LONG draft_write_io_word(LONG handle, ULONG address, const UWORD *data);
+LONG draft_write_io_longword(LONG handle, ULONG address, const ULONG *data);
+
+/* The draft has no fast data reads; with its addresses these go with its other calls. */
+UBYTE draft_fast_read_mem_byte(LONG handle, ULONG address);
+UWORD draft_fast_read_mem_word(LONG handle, ULONG address);
+ULONG draft_fast_read_mem_longword(LONG handle, ULONG address);
+UBYTE draft_fast_read_io_byte(LONG handle, ULONG address);
+UWORD draft_fast_read_io_word(LONG handle, ULONG address);
+ULONG draft_fast_read_io_longword(LONG handle, ULONG address);
+
+/* Without parameters, so that a function's address can be taken by these names too. */
+#if PCI_DRIVER_EDITION == 1
+#define find_pci_device draft_find_pci_device
+#define find_pci_classcode draft_find_pci_classcode
+#define read_mem_byte draft_read_mem_byte
+#define read_mem_word draft_read_mem_word
+#define read_mem_longword draft_read_mem_longword
+#define write_mem_byte draft_write_mem_byte
+#define write_mem_word draft_write_mem_word
+#define write_mem_longword draft_write_mem_longword
+#define read_io_byte draft_read_io_byte
+#define read_io_word draft_read_io_word
+#define read_io_longword draft_read_io_longword
+#define write_io_byte draft_write_io_byte
+#define write_io_word draft_write_io_word
+#define write_io_longword draft_write_io_longword
+#define fast_read_mem_byte draft_fast_read_mem_byte
+#define fast_read_mem_word draft_fast_read_mem_word
+#define fast_read_mem_longword draft_fast_read_mem_longword
+#define fast_read_io_byte draft_fast_read_io_byte
+#define fast_read_io_word draft_fast_read_io_word
+#define fast_read_io_longword draft_fast_read_io_longword
+#endif
 
 #endif

@@ -46,6 +46,7 @@ struct pci_call {
     int io; /* any number but 0 for I/O */
     uint8_t reg;
     uint32_t handle, a, b;
+    uint32_t c;                   /* the edition, with 0 and 2 exchanged */
     struct pci_lent own;          /* its own buffer */
     const struct pci_lent *cells; /* NULL for the calls that take none */
 };

@@ -41,6 +41,7 @@ static int put_call(FILE *stream, const struct pci_call *call, size_t own_length
     put_big(header + 4, 4, call->handle);
     put_big(header + 8, 4, call->a);
     put_big(header + 12, 4, call->b);
+    put_big(header + 16, 4, call->c);
     put_big(header + 60, 4, own_length);
     return put(stream, header, sizeof header, call->own.start, own_length);
 }
@@ -56,7 +57,7 @@ static int put_answer(FILE *stream, const struct pci_answer *answer, const void 
     return put(stream, header, sizeof header, own, own_length);
 }
 
-/* A script can say no other width; with one a call is refused before all else and is
+/* A script can say no other width; with one a call is refused whatever the board and is
    no call of a run. */
 static int in_script(const struct pci_call *call) {
     int has_width = OP_READ_CONFIG <= call->operation && call->operation <= OP_WRITE_DATA;

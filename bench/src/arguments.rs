@@ -2,6 +2,7 @@
 
 use crate::boards::{TimedBoard, Window};
 use crate::calls::{AskedWidth, ChainHook, ConfigCall, DataCall, LONG};
+use second::DRAFT_1_9;
 
 /// The length of a list: too long for a processor to learn its branches by heart, as some do with
 /// 4,096 calls (bench/README.md). The length costs nothing by itself: both sides read the same list
@@ -69,8 +70,9 @@ pub fn moves(board: &TimedBoard) -> Vec<ConfigCall> {
     (0..MOVES).map(call).collect()
 }
 
-/// Any address of any window that offers one of these widths, at one that it offers.
-pub fn addresses(board: &TimedBoard, widths: &[AskedWidth]) -> Vec<DataCall> {
+/// Any address of any window that offers one of these widths, at one that it offers, as the
+/// edition names it. The lists of both editions have the same accesses.
+pub fn addresses(board: &TimedBoard, widths: &[AskedWidth], call_edition: u32) -> Vec<DataCall> {
     let mut random = Random::new();
     let offers = |window: &Window, width: &AskedWidth| u32::from(window.widths) & width.bytes != 0;
     let of_window = |window: &Window| {
@@ -79,6 +81,7 @@ pub fn addresses(board: &TimedBoard, widths: &[AskedWidth]) -> Vec<DataCall> {
     };
     let windows: Vec<_> = board.windows.iter().map(of_window).collect();
     let windows: Vec<_> = windows.iter().filter(|(_, offered)| !offered.is_empty()).collect();
+    let added = |window: &Window| if call_edition == DRAFT_1_9 { window.offset } else { 0 };
     let call = |_| {
         let (window, offered) = random.of(&windows);
         let width = random.of(offered);
@@ -87,8 +90,9 @@ pub fn addresses(board: &TimedBoard, widths: &[AskedWidth]) -> Vec<DataCall> {
             space: window.space,
             width,
             handle: window.handle,
-            address: window.start + distance,
+            address: (window.start + distance).wrapping_add(added(window)),
             value: random.below(1 << 32) as u32,
+            call_edition,
         }
     };
     (0..LIST).map(call).collect()
@@ -118,13 +122,14 @@ mod tests {
     use super::*;
     use crate::boards::{b1, full};
     use crate::calls::WIDTHS;
+    use second::LATER_TEXT;
 
     /// Every function and width, and every window where a window is named.
     #[test]
     fn what_lists_hold() {
         for board in [b1(), full()] {
             let config = registers(&board, &WIDTHS);
-            let data = addresses(&board, &WIDTHS);
+            let data = addresses(&board, &WIDTHS, LATER_TEXT);
             let moves = moves(&board);
             for handle in 1..=board.functions() {
                 assert!(config.iter().any(|call| call.handle == handle));
@@ -144,6 +149,27 @@ mod tests {
                 assert!(moves.iter().any(moves_it));
                 assert!(data.iter().any(meets_it));
             }
+        }
+    }
+
+    /// The same accesses in both editions, each by its function's offset; on the full board some
+    /// wrap.
+    #[test]
+    fn the_same_in_both_editions() {
+        for board in [b1(), full()] {
+            let [later, draft] =
+                [LATER_TEXT, DRAFT_1_9].map(|edition| addresses(&board, &WIDTHS, edition));
+            let mut wrap = false;
+            for (later, draft) in later.iter().zip(&draft) {
+                let of_handle = |window: &&Window| window.handle == later.handle;
+                let offset = board.windows.iter().find(of_handle).map(|window| window.offset);
+                assert_eq!(Some(draft.address.wrapping_sub(later.address)), offset);
+                wrap |= draft.address < later.address;
+                assert_eq!((later.call_edition, draft.call_edition), (2, 1));
+                let same = |call: &DataCall| (call.handle, call.width.bytes, call.value);
+                assert_eq!(same(later), same(draft));
+            }
+            assert_eq!(wrap, board.name == "full");
         }
     }
 

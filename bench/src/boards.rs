@@ -2,8 +2,12 @@
 
 use second::board_b1::{b1_records, image_with_notes, plain_record, set_window, Shape};
 use second::{Record, BASES, FUNCTIONS, WINDOWS};
+use std::ops::Range;
 
 use crate::calls::{AskedSpace, Image, IO, MEMORY};
+
+/// The offset of a record.
+const OFFSET: Range<usize> = 536..540;
 
 /// A window of a board as it is loaded.
 #[derive(Clone, Copy)]
@@ -15,6 +19,8 @@ pub struct Window {
     /// The length exponent, and the widths offered: bit 0 for 8 bits, bit 1 for 16, bit 2 for 32.
     pub k: u8,
     pub widths: u8,
+    /// What is added to its bus addresses for the CPU's.
+    pub offset: u32,
 }
 
 /// A board with what the arguments of its rows are made of.
@@ -44,8 +50,11 @@ impl TimedBoard {
 }
 
 pub fn b1() -> TimedBoard {
-    let memory = |handle, start| Window { space: MEMORY, handle, base: 0, start, k: 10, widths: 7 };
-    let io = Window { space: IO, handle: 2, base: 1, start: 0x100, k: 4, widths: 1 };
+    let memory = |handle, start| {
+        let (space, base, k, widths, offset) = (MEMORY, 0, 10, 7, 0);
+        Window { space, handle, base, start, k, widths, offset }
+    };
+    let io = Window { space: IO, handle: 2, base: 1, start: 0x100, k: 4, widths: 1, offset: 0 };
     TimedBoard {
         name: "B1",
         windows: vec![memory(1, 0x8000_0000), memory(2, 0x8000_0400), io],
@@ -55,7 +64,8 @@ pub fn b1() -> TimedBoard {
 }
 
 /// Sixteen functions with six windows each: base registers 0 to 2 in memory, 3 to 5 in I/O,
-/// all of k 8 and apart, with every byte order. Their starts are in no order.
+/// all of k 8 and apart, with every byte order. Their starts are in no order. Each function has
+/// an offset of its own, by one of which CPU addresses wrap.
 pub fn full() -> TimedBoard {
     let mut records = [plain_record(); FUNCTIONS];
     let mut windows = Vec::new();
@@ -67,8 +77,10 @@ pub fn full() -> TimedBoard {
         let order = [0, 1, 2, 15][slot % 4];
         let shape = Shape { register: start | bit_0, k: 8, order, widths: 7 };
         set_window(&mut records[place], base, shape);
-        let handle = place as u32 + 1;
-        windows.push(Window { space, handle, base: base as u8, start, k: 8, widths: 7 });
+        let (handle, base) = (place as u32 + 1, base as u8);
+        let offset = handle.wrapping_mul(0x1100_0000);
+        records[place][OFFSET].copy_from_slice(&offset.to_be_bytes());
+        windows.push(Window { space, handle, base, start, k: 8, widths: 7, offset });
     }
     let lines = [3, 5, 9, 11];
     for (place, record) in records.iter_mut().enumerate() {

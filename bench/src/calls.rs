@@ -40,7 +40,8 @@ pub struct ConfigCall {
     pub value: u32,
 }
 
-/// What a data call names; the value is for a write.
+/// What a data call names; the value is for a write. The address is the CPU's in draft 1.9, the
+/// bus's in the later text.
 #[derive(Clone, Copy, Debug)]
 pub struct DataCall {
     pub space: AskedSpace,
@@ -48,6 +49,7 @@ pub struct DataCall {
     pub handle: u32,
     pub address: u32,
     pub value: u32,
+    pub call_edition: u32,
 }
 
 /// A hook of a line's chain, by its index.

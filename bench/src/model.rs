@@ -31,13 +31,15 @@ impl Second {
     }
 
     pub fn read_data(&mut self, call: &DataCall) -> (i32, u32) {
-        let DataCall { space, width, handle, address, .. } = *call;
-        self.board.read_data(&self.cells, space.space, handle, address, width.width)
+        let DataCall { space, width, handle, address, call_edition, .. } = *call;
+        let (space, width) = (space.space, width.width);
+        self.board.read_data(&self.cells, space, handle, address, width, call_edition)
     }
 
     pub fn write_data(&mut self, call: &DataCall) -> i32 {
-        let DataCall { space, width, handle, address, value } = *call;
-        self.board.write_data(&mut self.cells, space.space, handle, address, width.width, value)
+        let DataCall { space, width, handle, address, value, call_edition } = *call;
+        let (cells, space, width) = (&mut self.cells, space.space, width.width);
+        self.board.write_data(cells, space, handle, address, width, value, call_edition)
     }
 
     pub fn hook_interrupt(&mut self, handle: &u32) -> i32 {

@@ -116,6 +116,7 @@ impl Proved {
                 call.width.bytes,
                 call.handle,
                 call.address,
+                call.call_edition,
                 value,
             )
         }
@@ -136,6 +137,7 @@ impl Proved {
                 call.handle,
                 call.address,
                 call.value,
+                call.call_edition,
             )
         }
     }

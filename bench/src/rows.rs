@@ -7,6 +7,7 @@ use crate::model::Second;
 use crate::pair::Pair;
 use crate::proved::Proved;
 use crate::timing::{timed, Times};
+use second::{DRAFT_1_9, LATER_TEXT};
 use std::fmt::Debug;
 
 pub struct Row {
@@ -54,11 +55,16 @@ impl Rows<'_> {
         let write = |rows: &mut Self, name, list: &[DataCall]| {
             rows.row(name, list, 1, Proved::write_data, Second::write_data)
         };
-        let (long, any) = (addresses(self.board, &[LONG]), addresses(self.board, &WIDTHS));
+        let lists = |edition| [&[LONG][..], &WIDTHS].map(|w| addresses(self.board, w, edition));
+        let ([long, any], [draft_long, draft_any]) = (lists(LATER_TEXT), lists(DRAFT_1_9));
         read(self, "data read, longword", &long)?;
         read(self, "data read, any width", &any)?;
         write(self, "data write, longword", &long)?;
-        write(self, "data write, any width", &any)
+        write(self, "data write, any width", &any)?;
+        read(self, "data read of draft 1.9, longword", &draft_long)?;
+        read(self, "data read of draft 1.9, any width", &draft_any)?;
+        write(self, "data write of draft 1.9, longword", &draft_long)?;
+        write(self, "data write of draft 1.9, any width", &draft_any)
     }
 
     fn listings(&mut self) -> Result<(), String> {
@@ -103,7 +109,8 @@ impl Rows<'_> {
         pair.accepted(&board.images(), Proved::load, Second::load)?;
         let handles: Vec<u32> = (1..=board.functions()).rev().collect();
         pair.accepted(&handles, Proved::hook_interrupt, Second::hook_interrupt)?;
-        pair.accepted(&addresses(board, &WIDTHS), Proved::write_data, Second::write_data)?;
+        let writes = addresses(board, &WIDTHS, LATER_TEXT);
+        pair.accepted(&writes, Proved::write_data, Second::write_data)?;
         Ok(pair)
     }
 }

@@ -1,5 +1,5 @@
-/* The tests of the calls for C on board B1, whose image is on standard input; the argument is the
-   file with the trace of the incident. The last line has the counts. */
+/* The tests of the calls for C on board B1, whose image is on standard input; the arguments are the
+   files with the traces of the incident and of the two drivers. The last line has the counts. */
 #include <inttypes.h>
 #include <stdio.h>
 #include <string.h>
@@ -70,8 +70,21 @@ void put_trailer(uint8_t *records, uint32_t number) {
     put_long(trailer + 8, sum);
 }
 
+struct pci_call told;
+
+static void keep_call(const struct pci_call *call) {
+    told = *call;
+}
+
+static void no_answer(const struct pci_board *on, const struct pci_answer *answer) {
+    (void)on;
+    (void)answer;
+}
+
+const struct pci_recorder keeper = {keep_call, no_answer};
+
 int main(int argc, char **argv) {
-    if (argc != 2 || fread(image, 1, sizeof image, stdin) != sizeof image)
+    if (argc != 3 || fread(image, 1, sizeof image, stdin) != sizeof image)
         return 2;
     for (int i = 0; i < 16; i++)
         memcpy(sixteen + 544 * i, image, 544);
@@ -80,13 +93,17 @@ int main(int argc, char **argv) {
     put_long(image + 544 + 540, 0x2000);
     put_trailer(image, 2);
     test_bios();
+    test_editions();
     test_altered();
     test_driver();
+    test_draft();
+    test_cookie();
     test_passed_on();
     test_orders();
     test_trace();
     test_trace_refused();
     test_incident(argv[1]);
+    test_two_drivers(argv[2]);
     printf("%d checks, %d failed\n", checks, failed);
     return failed != 0;
 }

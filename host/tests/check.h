@@ -4,6 +4,7 @@
 #define CHECK_H
 
 #include "pci_bios.h"
+#include "pci_record.h"
 
 extern struct pci_board board;
 extern uint8_t cells[65536];
@@ -14,6 +15,10 @@ extern uint8_t image[1100];
 
 /* A board of 16 functions, each as handle 1 of B1. */
 extern uint8_t sixteen[16 * 544 + 12];
+
+/* The editions of calls. */
+#define DRAFT PCI_DRAFT_1_9
+#define LATER PCI_LATER_TEXT
 
 /* The number that a call gives. */
 #define GIVES(wanted, call) check(__FILE__, __LINE__, #call, wanted, (int64_t)(call))
@@ -41,15 +46,23 @@ void put_long(uint8_t *at, uint32_t value);
 /* A trailer after so many records, which document 01 puts at the image's end. */
 void put_trailer(uint8_t *records, uint32_t number);
 
+/* A recorder that keeps the last call it is told of. */
+extern const struct pci_recorder keeper;
+extern struct pci_call told;
+
 void test_bios(void);
+void test_editions(void);
 void test_driver(void);
+void test_draft(void);
+void test_cookie(void);
 void test_passed_on(void);
 void test_orders(void);
 void test_altered(void);
 void test_trace(void);
 void test_trace_refused(void);
 
-/* The trace that host/examples/incident.c left in a file. */
+/* The traces that host/examples/incident.c and two_drivers.c left in a file. */
 void test_incident(const char *path);
+void test_two_drivers(const char *path);
 
 #endif

@@ -3,6 +3,8 @@
 #include <stdlib.h>
 #include "pci_bios.h"
 
+#define LATER PCI_LATER_TEXT
+
 static struct pci_board board;
 static uint8_t cells[64];
 static struct pci_descriptor descriptor;
@@ -13,7 +15,7 @@ static int fault;
 /* Buffers against each other, against the board, and without an address. */
 static int buffers(int number) {
     uint8_t *inside = board.records + 100;
-    void *in_descriptor = &descriptor;
+    void *in_cells = cells, *in_descriptor = &descriptor;
     switch (number) {
     case 1: return pci_check_image(cells, sizeof cells, (void *)(cells + 60)), 1;
     case 2: return pci_load(&board, cells, 32, cells + 31, 20, &place), 1;
@@ -23,9 +25,9 @@ static int buffers(int number) {
     case 6: return pci_reset(&board, inside, 1), 1;
     case 7: return pci_write_image(&board, inside, 1), 1;
     case 8: return pci_get_resource(&board, 1, inside, 1), 1;
-    case 9: return pci_write_data(&board, inside, 1, 0, 4, 1, 0, 0), 1;
-    case 10: return pci_read_data(&board, cells, sizeof cells, 0, 4, 1, 0, (void *)cells), 1;
-    case 11: return pci_fast_read_data(&board, cells, sizeof cells, 0, 4, 1, 0, (void *)cells), 1;
+    case 9: return pci_write_data(&board, inside, 1, 0, 4, 1, 0, 0, LATER), 1;
+    case 10: return pci_read_data(&board, cells, sizeof cells, 0, 4, 1, 0, LATER, in_cells), 1;
+    case 11: return pci_fast_read_data(&board, cells, sizeof cells, 0, 4, 1, 0, LATER, in_cells), 1;
     case 12: return pci_descriptor_step(cells, sizeof cells, 0, (void *)cells, &following), 1;
     case 13: return pci_descriptor_step(cells, sizeof cells, 0, &descriptor, in_descriptor), 1;
     case 14: return pci_write_image(&board, NULL, 1), 1;
@@ -47,8 +49,8 @@ static int results(int number) {
     case 22: return pci_list_chain(&board, 5, 0, &board.used[0], &value, &other), 1;
     case 23: return pci_get_card_used(&board, 1, &value, &value), 1;
     case 24: return pci_get_card_used(&board, 1, &value, &board.used[1]), 1;
-    case 25: return pci_read_data(&board, cells, sizeof cells, 0, 4, 1, 0, board.header), 1;
-    case 26: return pci_fast_read_data(&board, cells, sizeof cells, 0, 4, 1, 0, in_board), 1;
+    case 25: return pci_read_data(&board, cells, sizeof cells, 0, 4, 1, 0, LATER, in_board), 1;
+    case 26: return pci_fast_read_data(&board, cells, sizeof cells, 0, 4, 1, 0, LATER, in_board), 1;
     default: return 0;
     }
 }
@@ -59,7 +61,7 @@ static void apart(void) {
     pci_load(&board, board.records, 0, cells, 32, &place);
     pci_load(&board, cells, 32, cells + 8, 0, &place);
     pci_load(&board, NULL, 0, NULL, 0, &place);
-    pci_fast_read_data(&board, NULL, 0, 0, 4, 1, 0, &fault);
+    pci_fast_read_data(&board, NULL, 0, 0, 4, 1, 0, LATER, &fault);
 }
 
 int main(int argc, char **argv) {

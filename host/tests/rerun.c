@@ -42,3 +42,10 @@ size_t rerun_count(const struct rerun *run, unsigned operation, unsigned refused
             (operation == 0 || run->script[at] == operation) && run->answers[at + 4] == refused;
     return count;
 }
+
+size_t rerun_editions(const struct rerun *run, uint32_t c) {
+    size_t count = 0;
+    for (size_t at = 0; at < run->stop; at += 64 + long_at(run->script + at + 60))
+        count += long_at(run->script + at + 16) == c;
+    return count;
+}

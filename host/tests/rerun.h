@@ -26,4 +26,7 @@ void rerun_perform(struct rerun *run);
 /* How many calls of an operation were accepted, or were refused; operation 0 means all. */
 size_t rerun_count(const struct rerun *run, unsigned operation, unsigned refused);
 
+/* How many calls have this third argument, which says an edition. */
+size_t rerun_editions(const struct rerun *run, uint32_t c);
+
 #endif

@@ -43,8 +43,8 @@ static void test_counts(void) {
         GIVES(0x00010F0F, value);
         LEAVES(-9, pci_read_config(&board, 4, 17, 0x00, &value));
         GIVES(0, value);
-        LEAVES(16, pci_find_device(&board, 0x00010F0F, 15));
-        LEAVES(-4, pci_find_device(&board, 0x00010F0F, 16));
+        LEAVES(16, pci_find_device(&board, 0x00010F0F, 15, LATER));
+        LEAVES(-4, pci_find_device(&board, 0x00010F0F, 16, LATER));
         refresh();
         windows_are(16);
     }
@@ -94,13 +94,13 @@ static void check_list_stands(void) {
     window_is(1, 0, 0x80000400, 1024, 2, 0);
     window_is(2, 1, 0x00000100, 16, 2, 1);
     windows_are(3);
-    ALTERS(0, pci_write_data(&board, cells, 2064, 0, 4, 1, 0x800003FC, 0x11223344));
-    LEAVES(0, pci_read_data(&board, cells, 2064, 0, 2, 1, 0x800003FC, &value));
+    ALTERS(0, pci_write_data(&board, cells, 2064, 0, 4, 1, 0x800003FC, 0x11223344, LATER));
+    LEAVES(0, pci_read_data(&board, cells, 2064, 0, 2, 1, 0x800003FC, LATER, &value));
     GIVES(0x3344, value);
-    LEAVES(0x44, pci_fast_read_data(&board, cells, 2064, 0, 1, 1, 0x800003FC, &fault));
+    LEAVES(0x44, pci_fast_read_data(&board, cells, 2064, 0, 1, 1, 0x800003FC, LATER, &fault));
     GIVES(0, fault);
-    LEAVES(-8, pci_read_data(&board, cells, 2064, 0, 4, 1, 0x80000400, &value));
-    LEAVES(-7, pci_read_data(&board, cells, 2063, 0, 4, 1, 0x80000000, &value));
+    LEAVES(-8, pci_read_data(&board, cells, 2064, 0, 4, 1, 0x80000400, LATER, &value));
+    LEAVES(-7, pci_read_data(&board, cells, 2063, 0, 4, 1, 0x80000000, LATER, &value));
 }
 
 static void check_records_count(void) {
@@ -145,15 +145,15 @@ static void test_orders_and_widths(void) {
     board.records[ENTRY(1, 0) + ORDER] = 7;
     board.records[ENTRY(1, 0) + WIDTHS] = 15;
     memcpy(&cells[1024], (uint8_t[4]){0x11, 0x22, 0x33, 0x44}, 4);
-    LEAVES(0, pci_read_data(&board, cells, sizeof cells, 0, 1, 2, 0x80000401, &value));
+    LEAVES(0, pci_read_data(&board, cells, sizeof cells, 0, 1, 2, 0x80000401, LATER, &value));
     GIVES(0x22, value);
-    LEAVES(0, pci_read_data(&board, cells, sizeof cells, 0, 4, 2, 0x80000400, &value));
+    LEAVES(0, pci_read_data(&board, cells, sizeof cells, 0, 4, 2, 0x80000400, LATER, &value));
     GIVES(0x11223344, value);
     LEAVES(0, pci_get_resource(&board, 2, out, sizeof out));
     GIVES(0x07, out[2]);
     GIVES(0x00, out[3]);
     board.records[ENTRY(1, 0) + WIDTHS] = 8;
-    LEAVES(-2, pci_read_data(&board, cells, sizeof cells, 0, 1, 2, 0x80000401, &value));
+    LEAVES(-2, pci_read_data(&board, cells, sizeof cells, 0, 1, 2, 0x80000401, LATER, &value));
 }
 
 /* "a cell past the buffer answers -7", after -2; the total is the kept one as it stands. */
@@ -161,10 +161,42 @@ static void test_cells_past_the_buffer(void) {
     uint32_t value;
     load_fresh();
     board.cell_offsets[6] = sizeof cells - 2;
-    LEAVES(0, pci_read_data(&board, cells, sizeof cells, 0, 2, 2, 0x80000402, &value));
-    LEAVES(-7, pci_read_data(&board, cells, sizeof cells, 0, 4, 2, 0x80000400, &value));
+    LEAVES(0, pci_read_data(&board, cells, sizeof cells, 0, 2, 2, 0x80000402, LATER, &value));
+    LEAVES(-7, pci_read_data(&board, cells, sizeof cells, 0, 4, 2, 0x80000400, LATER, &value));
     board.records[ENTRY(1, 0) + WIDTHS] = 1;
-    LEAVES(-2, pci_read_data(&board, cells, sizeof cells, 0, 4, 2, 0x80000400, &value));
+    LEAVES(-2, pci_read_data(&board, cells, sizeof cells, 0, 4, 2, 0x80000400, LATER, &value));
+}
+
+/* An offset that is no multiple of 4, read as it stands: the bus address is what must be a multiple
+   of the width. Of a handle past the count no offset is asked. */
+static void test_odd_offset(void) {
+    uint32_t value;
+    load_fresh();
+    put_long(&board.records[544 + 536], 0xFFFFFFFD);
+    ALTERS(0, pci_write_data(&board, cells, 2064, 0, 4, 2, 0x800003FD, 0x11223344, DRAFT));
+    LEAVES(0, pci_read_data(&board, cells, 2064, 0, 4, 2, 0x80000400, LATER, &value));
+    GIVES(0x11223344, value);
+    LEAVES(-8, pci_read_data(&board, cells, 2064, 0, 4, 2, 0x80000400, DRAFT, &value));
+    LEAVES(0, pci_read_data(&board, cells, 2064, 0, 1, 2, 0x80000400, DRAFT, &value));
+    GIVES(0x11, value);
+    board.header[0] = 1;
+    LEAVES(-9, pci_read_data(&board, cells, 2064, 0, 4, 2, 0x800003FD, DRAFT, &value));
+    LEAVES(-2, pci_read_data(&board, cells, 2064, 0, 4, 2, 0x800003FD, 3, &value));
+}
+
+/* "count above 16 as 16" for the offset of the last function, and of the one past it. */
+static void test_last_offset(void) {
+    uint32_t place, value;
+    GIVES(0, pci_load(&board, cells, sizeof cells, sixteen, sizeof sixteen, &place));
+    board.header[0] = UINT32_MAX;
+    refresh();
+    put_long(&board.records[15 * 544 + 536], 0x10000000);
+    GIVES(0, pci_write_config(&board, 4, 16, 0x10, 0xA0000000));
+    LEAVES(0, pci_read_data(&board, cells, sizeof cells, 0, 4, 16, 0xB0000000, DRAFT, &value));
+    LEAVES(-8, pci_read_data(&board, cells, sizeof cells, 0, 4, 16, 0xA0000000, DRAFT, &value));
+    LEAVES(-9, pci_read_data(&board, cells, sizeof cells, 0, 4, 17, 0xB0000000, DRAFT, &value));
+    LEAVES(16, pci_find_device(&board, 0x0F0F0001, 15, DRAFT));
+    LEAVES(-4, pci_find_device(&board, 0x0F0F0001, 16, DRAFT));
 }
 
 /* A hook with the pin gone: -8 before -6, though the function is hooked. */
@@ -208,6 +240,8 @@ void test_altered(void) {
     test_exponents_of_records_alone();
     test_orders_and_widths();
     test_cells_past_the_buffer();
+    test_odd_offset();
+    test_last_offset();
     test_pin_gone();
     test_walks();
 }

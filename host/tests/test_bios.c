@@ -93,12 +93,12 @@ static void test_windows(void) {
 
 static void test_searches(void) {
     load_fresh();
-    LEAVES(2, pci_find_device(&board, 0x00010F0F, 1));
-    LEAVES(-4, pci_find_device(&board, 0x00010F0F, 2));
-    LEAVES(-4, pci_find_device(&board, 0x00010F0F, 65536));
-    LEAVES(1, pci_find_device(&board, 0x0000FFFF, 0));
-    LEAVES(2, pci_find_class(&board, 0x01118055, 1));
-    LEAVES(-4, pci_find_class(&board, 0x00118055, 0));
+    LEAVES(2, pci_find_device(&board, 0x00010F0F, 1, LATER));
+    LEAVES(-4, pci_find_device(&board, 0x00010F0F, 2, LATER));
+    LEAVES(-4, pci_find_device(&board, 0x00010F0F, 65536, LATER));
+    LEAVES(1, pci_find_device(&board, 0x0000FFFF, 0, LATER));
+    LEAVES(2, pci_find_class(&board, 0x01118055, 1, LATER));
+    LEAVES(-4, pci_find_class(&board, 0x00118055, 0, LATER));
 }
 
 static void test_config(void) {
@@ -132,26 +132,26 @@ static void test_config(void) {
 /* In order 1 the longword 11223344h has the word 3344h and the byte 44h at its address (P13). */
 static void test_data(void) {
     load_fresh();
-    ALTERS(0, pci_write_data(&board, cells, 2064, 0, 4, 2, 0x80000400, 0x11223344));
+    ALTERS(0, pci_write_data(&board, cells, 2064, 0, 4, 2, 0x80000400, 0x11223344, LATER));
     GIVES(0x11, cells[1024]);
-    LEAVES(0, pci_read_data(&board, cells, 2064, 0, 2, 2, 0x80000400, &value));
+    LEAVES(0, pci_read_data(&board, cells, 2064, 0, 2, 2, 0x80000400, LATER, &value));
     GIVES(0x3344, value);
-    LEAVES(0x44, pci_fast_read_data(&board, cells, 2064, 0, 1, 2, 0x80000400, &fault));
+    LEAVES(0x44, pci_fast_read_data(&board, cells, 2064, 0, 1, 2, 0x80000400, LATER, &fault));
     GIVES(0, fault);
-    ALTERS(0, pci_write_data(&board, cells, 2064, 1, 1, 2, 0x10F, 0x155));
+    ALTERS(0, pci_write_data(&board, cells, 2064, 1, 1, 2, 0x10F, 0x155, LATER));
     GIVES(0x55, cells[2063]);
-    LEAVES(0, pci_read_data(&board, cells, 2064, 7, 1, 2, 0x10F, &value));
+    LEAVES(0, pci_read_data(&board, cells, 2064, 7, 1, 2, 0x10F, LATER, &value));
     GIVES(0x55, value);
-    LEAVES(-8, pci_write_data(&board, cells, 2064, 0, 4, 1, 0x80000400, 1));
-    LEAVES(-2, pci_write_data(&board, cells, 2064, 1, 2, 2, 0x100, 1));
-    LEAVES(-7, pci_write_data(&board, cells, 2063, 0, 4, 1, 0x80000000, 1));
-    LEAVES(-7, pci_write_data(&board, NULL, 0, 0, 4, 1, 0x80000000, 1));
-    LEAVES(-7, pci_read_data(&board, NULL, 0, 0, 4, 1, 0x80000000, &value));
+    LEAVES(-8, pci_write_data(&board, cells, 2064, 0, 4, 1, 0x80000400, 1, LATER));
+    LEAVES(-2, pci_write_data(&board, cells, 2064, 1, 2, 2, 0x100, 1, LATER));
+    LEAVES(-7, pci_write_data(&board, cells, 2063, 0, 4, 1, 0x80000000, 1, LATER));
+    LEAVES(-7, pci_write_data(&board, NULL, 0, 0, 4, 1, 0x80000000, 1, LATER));
+    LEAVES(-7, pci_read_data(&board, NULL, 0, 0, 4, 1, 0x80000000, LATER, &value));
     GIVES(0, value);
-    LEAVES(0xFFFF, pci_fast_read_data(&board, NULL, 0, 0, 2, 1, 0x80000000, &fault));
+    LEAVES(0xFFFF, pci_fast_read_data(&board, NULL, 0, 0, 2, 1, 0x80000000, LATER, &fault));
     GIVES(1, fault);
     value = 9;
-    LEAVES(-9, pci_read_data(&board, cells, 2064, 0, 4, 3, 0x80000000, &value));
+    LEAVES(-9, pci_read_data(&board, cells, 2064, 0, 4, 3, 0x80000000, LATER, &value));
     GIVES(0, value);
 }
 

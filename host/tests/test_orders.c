@@ -1,8 +1,8 @@
-/* Data calls of every byte order, in both spaces and by both layers: every address of a window at
-   every width, against document 01's rule. */
+/* Data calls of every byte order, in both spaces, both editions and by both layers: every address
+   of a window at every width, against document 01's rule. */
 #include <string.h>
+#include "by_width.h"
 #include "check.h"
-#include "pci_driver.h"
 
 /* Four windows of 16 cells each: memory of handle 1, I/O of handle 2. */
 #define WINDOW_CELLS 16
@@ -17,6 +17,9 @@ static void put_window(uint8_t *record, unsigned base, uint32_t start, uint8_t o
     memcpy(record + 512 + 4 * base, entry, sizeof entry);
 }
 
+/* What draft 1.9 adds to the bus addresses of a space, its card having this offset. */
+static const uint32_t offsets[2] = {0xF0000000, 0x1000};
+
 /* The cells get values that all differ, none of them 0 or FFh. */
 static void load_orders(void) {
     static uint8_t board_image[2 * 544 + 12];
@@ -26,6 +29,8 @@ static void load_orders(void) {
         put_window(board_image, base, 0x80000000 + WINDOW_CELLS * base, orders[base]);
         put_window(board_image + 544, base, 0x101 + WINDOW_CELLS * base, orders[base]);
     }
+    for (int io = 0; io < 2; io++)
+        put_long(board_image + 544 * io + 536, offsets[io]);
     put_trailer(board_image, 2);
     GIVES(0, pci_load(&board, cells, sizeof cells, board_image, sizeof board_image, &place));
     for (unsigned i = 0; i < 8 * WINDOW_CELLS; i++)
@@ -46,83 +51,62 @@ static uint32_t value_at(const uint8_t *window, uint8_t order, unsigned width, u
     return value;
 }
 
-static LONG driver_read(int io, unsigned width, LONG handle, ULONG address, ULONG *value) {
-    UBYTE byte = 0xEE;
-    UWORD word = 0xEEEE;
-    LONG number;
-    if (width == 4)
-        return (io ? read_io_longword : read_mem_longword)(handle, address, value);
-    if (width == 2) {
-        number = (io ? read_io_word : read_mem_word)(handle, address, &word);
-        *value = word;
-    } else {
-        number = (io ? read_io_byte : read_mem_byte)(handle, address, &byte);
-        *value = byte;
-    }
-    return number;
-}
-
-static ULONG driver_fast_read(int io, unsigned width, LONG handle, ULONG address) {
-    if (width == 4)
-        return (io ? fast_read_io_longword : fast_read_mem_longword)(handle, address);
-    if (width == 2)
-        return (io ? fast_read_io_word : fast_read_mem_word)(handle, address);
-    return (io ? fast_read_io_byte : fast_read_mem_byte)(handle, address);
-}
-
-static LONG driver_write(int io, unsigned width, LONG handle, ULONG address, ULONG value) {
-    if (width == 4)
-        return (io ? write_io_longword : write_mem_longword)(handle, address, value);
-    if (width == 2)
-        return (io ? write_io_word : write_mem_word)(handle, address, (UWORD)value);
-    return (io ? write_io_byte : write_mem_byte)(handle, address, (UBYTE)value);
-}
-
 /* An address that is no multiple of the width is refused, and nothing else here. */
-static void check_reads(int io, unsigned width, uint32_t address, uint32_t wanted) {
+static void check_reads(uint32_t edition, int io, unsigned width, uint32_t bus, uint32_t wanted) {
+    const struct data_calls *driver = edition == DRAFT ? &draft_calls : &later_calls;
+    uint32_t address = edition == DRAFT ? bus + offsets[io] : bus;
     uint32_t handle = io ? 2 : 1, ones = 0xFFFFFFFF >> (32 - 8 * width), got = 0xEEEEEEEE;
-    int refused = address % width != 0, fault = 77;
+    int refused = bus % width != 0, fault = 77;
     int32_t number = refused ? -8 : 0;
-    LEAVES(number, pci_read_data(&board, cells, 128, io, width, handle, address, &got));
+    LEAVES(number, pci_read_data(&board, cells, 128, io, width, handle, address, edition, &got));
     GIVES(refused ? 0 : wanted, got);
     LEAVES(refused ? ones : wanted,
-           pci_fast_read_data(&board, cells, 128, io, width, handle, address, &fault));
+           pci_fast_read_data(&board, cells, 128, io, width, handle, address, edition, &fault));
     GIVES(refused, fault);
     got = 0xEEEEEEEE;
-    LEAVES(number, driver_read(io, width, (LONG)handle, address, &got));
+    LEAVES(number, driver->read(io, width, (LONG)handle, address, &got));
     GIVES(refused ? 0 : wanted, got);
-    LEAVES(refused ? ones : wanted, driver_fast_read(io, width, (LONG)handle, address));
+    LEAVES(refused ? ones : wanted, driver->fast_read(io, width, (LONG)handle, address));
+}
+
+static int32_t write_by(const struct data_calls *driver, uint32_t edition, int io, unsigned width,
+                        uint32_t address, uint32_t value) {
+    uint32_t handle = io ? 2 : 1;
+    if (driver != NULL)
+        return driver->write(io, width, (LONG)handle, address, value);
+    return pci_write_data(&board, cells, 128, io, width, handle, address, value, edition);
 }
 
 /* Writes by one layer, then the other: the cells of the width change as the rule says, the others
    stay. `kept` is what all cells must be. */
-static void check_writes(int io, unsigned width, uint32_t address, uint8_t *kept, uint8_t *window,
-                         uint8_t order) {
+static void check_writes(uint32_t edition, int io, unsigned width, uint32_t bus, uint8_t *kept,
+                         uint8_t *window, uint8_t order) {
     static uint32_t value = 0x12345678;
-    uint32_t handle = io ? 2 : 1;
-    int32_t number = address % width != 0 ? -8 : 0;
-    for (int by_driver = 0; by_driver < 2; by_driver++) {
+    const struct data_calls *const layers[] = {NULL,
+                                               edition == DRAFT ? &draft_calls : &later_calls};
+    uint32_t address = edition == DRAFT ? bus + offsets[io] : bus;
+    int32_t number = bus % width != 0 ? -8 : 0;
+    for (int layer = 0; layer < 2; layer++) {
         value = value * 0x9E3779B1 + 1;
         for (unsigned i = 0; number == 0 && i < width; i++)
-            window[cell_of(order, width, address % WINDOW_CELLS, i)] =
+            window[cell_of(order, width, bus % WINDOW_CELLS, i)] =
                 (uint8_t)(value >> 8 * (width - 1 - i));
-        if (by_driver)
-            GIVES(number, driver_write(io, width, (LONG)handle, address, value));
-        else
-            GIVES(number, pci_write_data(&board, cells, 128, io, width, handle, address, value));
+        GIVES(number, write_by(layers[layer], edition, io, width, address, value));
         GIVES(0, memcmp(kept, cells, 129));
     }
 }
 
+/* What one edition writes the other reads next. */
 static void check_window(int io, unsigned base, uint8_t *kept) {
     uint8_t *window = kept + WINDOW_CELLS * (io ? 4 + base : base), order = orders[base];
     uint32_t start = (io ? 0x100 : 0x80000000) + WINDOW_CELLS * base;
     for (unsigned width = 1; width <= 4; width *= 2)
-        for (uint32_t distance = 0; distance < WINDOW_CELLS; distance++) {
-            uint32_t aligned = distance - distance % width;
-            check_reads(io, width, start + distance, value_at(window, order, width, aligned));
-            check_writes(io, width, start + distance, kept, window, order);
-        }
+        for (uint32_t distance = 0; distance < WINDOW_CELLS; distance++)
+            for (uint32_t edition = DRAFT; edition <= LATER; edition++) {
+                uint32_t wanted = value_at(window, order, width, distance - distance % width);
+                check_reads(edition, io, width, start + distance, wanted);
+                check_writes(edition, io, width, start + distance, kept, window, order);
+            }
 }
 
 void test_orders(void) {

@@ -3,9 +3,8 @@
    something else before the call. */
 #include <limits.h>
 #include <string.h>
+#include "by_width.h"
 #include "check.h"
-#include "pci_driver.h"
-#include "pci_record.h"
 
 /* A call's result goes to `got` of a type, which is no answer before: the number and the result. */
 #define RESULT(type, number, result, call) \
@@ -63,11 +62,12 @@ static void check_bios_handle(uint32_t bad) {
     FAST(0xFFFF, 1, pci_fast_read_config(&board, 2, bad, 0x10, &fault));
     FAST(0xFFFFFFFF, 1, pci_fast_read_config(&board, 4, bad, 0x10, &fault));
     LEAVES(-9, pci_write_config(&board, 4, bad, 0x10, 0x90000000));
-    RESULT(uint32_t, -9, 0, pci_read_data(&board, cells, 2064, 0, 4, bad, 0x80000400, &got));
-    FAST(0xFF, 1, pci_fast_read_data(&board, cells, 2064, 1, 1, bad, 0x100, &fault));
-    FAST(0xFFFFFFFF, 1, pci_fast_read_data(&board, cells, 2064, 0, 4, bad, 0x80000000, &fault));
-    LEAVES(-9, pci_write_data(&board, cells, 2064, 0, 4, bad, 0x80000400, 1));
-    LEAVES(-9, pci_write_data(&board, cells, 2064, 1, 1, bad, 0x100, 1));
+    RESULT(uint32_t, -9, 0, pci_read_data(&board, cells, 2064, 0, 4, bad, 0x80000400, LATER, &got));
+    FAST(0xFF, 1, pci_fast_read_data(&board, cells, 2064, 1, 1, bad, 0x100, LATER, &fault));
+    FAST(0xFFFFFFFF, 1,
+         pci_fast_read_data(&board, cells, 2064, 0, 4, bad, 0x80000000, LATER, &fault));
+    LEAVES(-9, pci_write_data(&board, cells, 2064, 0, 4, bad, 0x80000400, 1, LATER));
+    LEAVES(-9, pci_write_data(&board, cells, 2064, 1, 1, bad, 0x100, 1, LATER));
     RESULT(uint32_t, -9, 0, pci_bus_to_cpu(&board, bad, 0x1234, &got));
     RESULT(uint32_t, -9, 0, pci_cpu_to_bus(&board, bad, 0x1234, &got));
     LEAVES(-9, pci_get_resource(&board, bad, out, sizeof out));
@@ -90,32 +90,22 @@ static void check_driver_configuration(LONG bad) {
     LEAVES(-9, write_config_longword(bad, 0x10, 0x90000000));
 }
 
-/* Memory at an address of handle 2; of the I/O window the bytes. */
-static void check_driver_data(LONG bad) {
-    RESULT(UBYTE, -9, 0, read_mem_byte(bad, 0x80000400, &got));
-    RESULT(UWORD, -9, 0, read_mem_word(bad, 0x80000400, &got));
-    RESULT(ULONG, -9, 0, read_mem_longword(bad, 0x80000400, &got));
-    LEAVES(-9, write_mem_byte(bad, 0x80000400, 1));
-    LEAVES(-9, write_mem_word(bad, 0x80000400, 1));
-    LEAVES(-9, write_mem_longword(bad, 0x80000400, 1));
-    RESULT(UBYTE, -9, 0, read_io_byte(bad, 0x100, &got));
-    RESULT(UWORD, -9, 0, read_io_word(bad, 0x100, &got));
-    RESULT(ULONG, -9, 0, read_io_longword(bad, 0x100, &got));
-    LEAVES(-9, write_io_byte(bad, 0x100, 1));
-    LEAVES(-9, write_io_word(bad, 0x100, 1));
-    LEAVES(-9, write_io_longword(bad, 0x100, 1));
-    LEAVES(0xFF, fast_read_mem_byte(bad, 0x80000400));
-    LEAVES(0xFFFF, fast_read_mem_word(bad, 0x80000400));
-    LEAVES(0xFFFFFFFF, fast_read_mem_longword(bad, 0x80000400));
-    LEAVES(0xFF, fast_read_io_byte(bad, 0x100));
-    LEAVES(0xFFFF, fast_read_io_word(bad, 0x100));
-    LEAVES(0xFFFFFFFF, fast_read_io_longword(bad, 0x100));
+/* Memory and I/O at an address of handle 2, which the draft's calls see 1000h higher. */
+static void check_driver_data(const struct data_calls *driver, ULONG offset, LONG bad) {
+    for (int io = 0; io < 2; io++)
+        for (unsigned width = 1; width <= 4; width *= 2) {
+            ULONG address = (io ? 0x100 : 0x80000400) + offset;
+            RESULT(ULONG, -9, 0, driver->read(io, width, bad, address, &got));
+            LEAVES(0xFFFFFFFF >> (32 - 8 * width), driver->fast_read(io, width, bad, address));
+            LEAVES(-9, driver->write(io, width, bad, address, 1));
+        }
 }
 
 static void check_driver_handle(LONG bad) {
     pci_callback *got = callback;
     check_driver_configuration(bad);
-    check_driver_data(bad);
+    check_driver_data(&later_calls, 0, bad);
+    check_driver_data(&draft_calls, 0x1000, bad);
     LEAVES(-9, hook_interrupt(bad, handler, out));
     LEAVES(-9, unhook_interrupt(bad));
     LEAVES(-9, get_resource(bad));
@@ -151,8 +141,8 @@ static void test_numbers(void) {
     use_hooked();
     for (size_t i = 0; i < 3; i++) {
         for (uint32_t n = 0; n < 4; n++) {
-            LEAVES(-4, pci_find_device(&board, 0x0000FFFF, above[i] + n));
-            LEAVES(-4, pci_find_class(&board, 0x07000000, above[i] + n));
+            LEAVES(-4, pci_find_device(&board, 0x0000FFFF, above[i] + n, LATER));
+            LEAVES(-4, pci_find_class(&board, 0x07000000, above[i] + n, LATER));
             check_no_window(above[i] + n);
             check_chain(5, above[i] + n, -4);
             LEAVES(-8, pci_set_card_used(&board, 2, above[i] + n, 0));
@@ -173,10 +163,11 @@ static void test_widths(void) {
         RESULT(uint32_t, -8, 0, pci_read_config(&board, width, 1, 0x10, &got));
         FAST(0xFFFFFFFF, 1, pci_fast_read_config(&board, width, 1, 0x10, &fault));
         LEAVES(-8, pci_write_config(&board, width, 1, 0x10, 0x90000000));
-        RESULT(uint32_t, -8, 0, pci_read_data(&board, cells, 2064, 0, width, 1, 0x80000000, &got));
+        RESULT(uint32_t, -8, 0,
+               pci_read_data(&board, cells, 2064, 0, width, 1, 0x80000000, LATER, &got));
         FAST(0xFFFFFFFF, 1,
-             pci_fast_read_data(&board, cells, 2064, 0, width, 1, 0x80000000, &fault));
-        LEAVES(-8, pci_write_data(&board, cells, 2064, 0, width, 1, 0x80000000, 1));
+             pci_fast_read_data(&board, cells, 2064, 0, width, 1, 0x80000000, LATER, &fault));
+        LEAVES(-8, pci_write_data(&board, cells, 2064, 0, width, 1, 0x80000000, 1, LATER));
     }
 }
 
@@ -186,15 +177,17 @@ static void test_spaces(void) {
     load_fresh();
     for (size_t i = 0; i < sizeof spaces / sizeof spaces[0]; i++) {
         int io = spaces[i], byte = (int)(0x30 + i);
-        ALTERS(0, pci_write_data(&board, cells, 2064, io, 1, 2, 0x105, (uint32_t)byte));
-        RESULT(uint32_t, 0, byte, pci_read_data(&board, cells, 2064, io, 1, 2, 0x105, &got));
-        FAST(byte, 0, pci_fast_read_data(&board, cells, 2064, io, 1, 2, 0x105, &fault));
-        LEAVES(-8, pci_write_data(&board, cells, 2064, io, 4, 2, 0x80000400, 1));
-        RESULT(uint32_t, -8, 0, pci_read_data(&board, cells, 2064, io, 4, 2, 0x80000400, &got));
-        FAST(0xFFFFFFFF, 1, pci_fast_read_data(&board, cells, 2064, io, 4, 2, 0x80000400, &fault));
+        ALTERS(0, pci_write_data(&board, cells, 2064, io, 1, 2, 0x105, (uint32_t)byte, LATER));
+        RESULT(uint32_t, 0, byte, pci_read_data(&board, cells, 2064, io, 1, 2, 0x105, LATER, &got));
+        FAST(byte, 0, pci_fast_read_data(&board, cells, 2064, io, 1, 2, 0x105, LATER, &fault));
+        LEAVES(-8, pci_write_data(&board, cells, 2064, io, 4, 2, 0x80000400, 1, LATER));
+        RESULT(uint32_t, -8, 0,
+               pci_read_data(&board, cells, 2064, io, 4, 2, 0x80000400, LATER, &got));
+        FAST(0xFFFFFFFF, 1,
+             pci_fast_read_data(&board, cells, 2064, io, 4, 2, 0x80000400, LATER, &fault));
     }
-    LEAVES(-8, pci_write_data(&board, cells, 2064, 0, 1, 2, 0x105, 1));
-    RESULT(uint32_t, -8, 0, pci_read_data(&board, cells, 2064, 0, 1, 2, 0x105, &got));
+    LEAVES(-8, pci_write_data(&board, cells, 2064, 0, 1, 2, 0x105, 1, LATER));
+    RESULT(uint32_t, -8, 0, pci_read_data(&board, cells, 2064, 0, 1, 2, 0x105, LATER, &got));
 }
 
 /* Each refusal of a read, and that it leaves nothing of what the variable held; handle 1 and 2 meet
@@ -206,10 +199,10 @@ static void test_refused_reads(void) {
     RESULT(uint32_t, -5, 0, pci_read_config(&board, 4, 1, 0x12, &got));
     RESULT(UWORD, -5, 0, read_config_word(1, 0x11, &got));
     RESULT(ULONG, -5, 0, read_config_longword(1, 0x12, &got));
-    RESULT(uint32_t, -7, 0, pci_read_data(&board, cells, 2063, 0, 4, 1, 0x80000000, &got));
-    RESULT(uint32_t, -8, 0, pci_read_data(&board, cells, 2064, 0, 2, 1, 0x80000001, &got));
-    RESULT(uint32_t, -8, 0, pci_read_data(&board, cells, 2064, 0, 1, 1, 0x80000400, &got));
-    RESULT(uint32_t, -2, 0, pci_read_data(&board, cells, 2064, 1, 2, 2, 0x100, &got));
+    RESULT(uint32_t, -7, 0, pci_read_data(&board, cells, 2063, 0, 4, 1, 0x80000000, LATER, &got));
+    RESULT(uint32_t, -8, 0, pci_read_data(&board, cells, 2064, 0, 2, 1, 0x80000001, LATER, &got));
+    RESULT(uint32_t, -8, 0, pci_read_data(&board, cells, 2064, 0, 1, 1, 0x80000400, LATER, &got));
+    RESULT(uint32_t, -2, 0, pci_read_data(&board, cells, 2064, 1, 2, 2, 0x100, LATER, &got));
     RESULT(UBYTE, -8, 0, read_mem_byte(1, 0x80000400, &got));
     RESULT(UWORD, -8, 0, read_mem_word(1, 0x80000001, &got));
     RESULT(ULONG, -8, 0, read_mem_longword(1, 0x80000002, &got));
@@ -217,7 +210,7 @@ static void test_refused_reads(void) {
     RESULT(UWORD, -2, 0, read_io_word(2, 0x100, &got));
     RESULT(ULONG, -2, 0, read_io_longword(2, 0x100, &got));
     GIVES(0, write_config_longword(2, 0x10, 0x80000000));
-    RESULT(uint32_t, -8, 0, pci_read_data(&board, cells, 2064, 0, 4, 1, 0x80000000, &got));
+    RESULT(uint32_t, -8, 0, pci_read_data(&board, cells, 2064, 0, 4, 1, 0x80000000, LATER, &got));
     RESULT(ULONG, -8, 0, read_mem_longword(2, 0x80000000, &got));
 }
 
@@ -251,20 +244,8 @@ static void test_great_sum(void) {
     LEAVES(5, pci_load(&board, cells, sizeof cells, ones, sizeof ones, &place));
 }
 
-static struct pci_call told;
-
-static void keep_call(const struct pci_call *call) {
-    told = *call;
-}
-
-static void no_answer(const struct pci_board *on, const struct pci_answer *answer) {
-    (void)on;
-    (void)answer;
-}
-
 /* The arguments of a special cycle change no answer; a recorder is told of them. */
 static void test_special_cycle(void) {
-    static const struct pci_recorder keeper = {keep_call, no_answer};
     pci_recorder = &keeper;
     GIVES(-2, pci_special_cycle(0x41, 0x11121314));
     GIVES(0x41, told.reg);

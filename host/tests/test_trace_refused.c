@@ -1,4 +1,4 @@
-/* Traces that are refused or stay incomplete, and the trace of the incident. */
+/* Traces that are refused or stay incomplete, and the traces of the examples. */
 #include <errno.h>
 #include <string.h>
 #include "check.h"
@@ -26,8 +26,8 @@ static FILE *full_stream(int mode) {
 /* The run of all tests here: three calls, each as it is without a trace. */
 static void make_calls(void) {
     GIVES(0, pci_load(&board, cells, 2064, image, sizeof image, &place));
-    GIVES(0, pci_write_data(&board, cells, 2064, 0, 4, 2, 0x80000400, 0x11223344));
-    GIVES(0, pci_read_data(&board, cells, 2064, 0, 2, 2, 0x80000400, &value));
+    GIVES(0, pci_write_data(&board, cells, 2064, 0, 4, 2, 0x80000400, 0x11223344, LATER));
+    GIVES(0, pci_read_data(&board, cells, 2064, 0, 2, 2, 0x80000400, LATER, &value));
     GIVES(0x3344, value);
 }
 
@@ -99,7 +99,7 @@ static void check_recorded(void) {
 
 /* After other cells were lent nothing is recorded, not even a call that lends the trace's own. */
 static void check_stopped(void) {
-    GIVES(0, pci_write_data(&board, cells, 2064, 0, 4, 2, 0x80000400, 0x55667788));
+    GIVES(0, pci_write_data(&board, cells, 2064, 0, 4, 2, 0x80000400, 0x55667788, LATER));
     GIVES(-1, pci_trace_end(&trace));
     check_recorded();
 }
@@ -117,14 +117,17 @@ static void test_other_cells(void) {
     GIVES(-7, pci_reset(&board, NULL, 0));
     check_stopped();
     record_calls();
-    GIVES(0, pci_read_data(&board, more_cells, 2064, 0, 4, 2, 0x80000400, &value));
+    GIVES(0, pci_read_data(&board, more_cells, 2064, 0, 4, 2, 0x80000400, LATER, &value));
     GIVES(0, value);
     check_stopped();
     record_calls();
-    GIVES(0xFFFFFFFF, pci_fast_read_data(&board, cells, 2063, 0, 4, 2, 0x80000400, &fault));
+    GIVES(0xFFFFFFFF, pci_fast_read_data(&board, cells, 2063, 0, 4, 2, 0x80000400, LATER, &fault));
     check_stopped();
     record_calls();
-    GIVES(0, pci_write_data(&board, cells, sizeof cells, 0, 4, 2, 0x80000400, 1));
+    GIVES(0, pci_write_data(&board, cells, sizeof cells, 0, 4, 2, 0x80000400, 1, LATER));
+    check_stopped();
+    record_calls();
+    GIVES(-2, pci_write_data(&board, cells, 2063, 0, 4, 2, 0x80000400, 1, 3));
     check_stopped();
 }
 
@@ -135,7 +138,8 @@ static void test_not_recorded(void) {
     record_calls();
     GIVES(0, pci_check_image(image, sizeof image, &place));
     GIVES(0, pci_descriptor_step(NULL, 0, 0, &descriptor, &following));
-    GIVES(-8, pci_write_data(&board, more_cells, 9, 0, 3, 2, 0x80000400, 1));
+    GIVES(-8, pci_write_data(&board, more_cells, 9, 0, 3, 2, 0x80000400, 1, LATER));
+    GIVES(-2, pci_write_data(&board, more_cells, 9, 0, 3, 2, 0x80000400, 1, 3));
     GIVES(0, pci_trace_end(&trace));
     check_recorded();
 }
@@ -196,24 +200,56 @@ void test_trace_refused(void) {
     test_failing_end();
 }
 
+/* Performs the trace in a file again. */
+static int perform_file(const char *path, size_t cells_length) {
+    FILE *stream = fopen(path, "rb");
+    GIVES(1, stream != NULL);
+    if (stream == NULL)
+        return 0;
+    calls_in(stream);
+    GIVES((int64_t)cells_length, rerun.cells_length);
+    fclose(stream);
+    return 1;
+}
+
+/* Four cells after a run. */
+static void check_cells(size_t at, const uint8_t *wanted) {
+    GIVES(0, memcmp(rerun.cells + at, wanted, 4));
+}
+
 /* The stray sample's fast read and write are refused, and the listings of the line past its two
    hooks, one for each interrupt and one for the list of handlers; the bins are in the cells as the
    example printed them. */
 void test_incident(const char *path) {
-    static const uint8_t sample[4] = {0, 0, 0, 1}, samples[4] = {0, 0, 0, 2};
-    FILE *stream = fopen(path, "rb");
-    GIVES(1, stream != NULL);
-    if (stream == NULL)
+    if (!perform_file(path, 2064))
         return;
-    calls_in(stream);
-    GIVES(2064, rerun.cells_length);
     GIVES(1, rerun_count(&rerun, 10, 1));
     GIVES(1, rerun_count(&rerun, 11, 1));
     GIVES(6, rerun_count(&rerun, 18, 1));
     GIVES(8, rerun_count(&rerun, 0, 1));
     GIVES(4 * 256, rerun_count(&rerun, 9, 0));
-    GIVES(0, memcmp(rerun.cells + 4 * 17, sample, 4));
-    GIVES(0, memcmp(rerun.cells + 4 * 255, sample, 4));
-    GIVES(0, memcmp(rerun.cells + 1024, samples, 4));
-    fclose(stream);
+    GIVES(0, rerun_editions(&rerun, 1));
+    check_cells(4 * 17, (const uint8_t[4]){0, 0, 0, 1});
+    check_cells(4 * 255, (const uint8_t[4]){0, 0, 0, 1});
+    check_cells(1024, (const uint8_t[4]){0, 0, 0, 2});
+}
+
+/* Both drivers meet the stray bin: the old one's read and write are refused, the new one's fast
+   read and write; so are the listings past two hooks, at eight interrupts and two lists. The old
+   one makes two searches, four reads and four writes for its samples, and reads 256 bins four
+   times, the new one three times. Card two has order 2, the low byte first. */
+void test_two_drivers(const char *path) {
+    if (!perform_file(path, 2064))
+        return;
+    GIVES(1, rerun_count(&rerun, 9, 1));
+    GIVES(1, rerun_count(&rerun, 10, 1));
+    GIVES(2, rerun_count(&rerun, 11, 1));
+    GIVES(10, rerun_count(&rerun, 18, 1));
+    GIVES(14, rerun_count(&rerun, 0, 1));
+    GIVES(7 * 256 + 3, rerun_count(&rerun, 9, 0));
+    GIVES(2 + 4 + 4 + 4 * 256, rerun_editions(&rerun, 1));
+    check_cells(4 * 3, (const uint8_t[4]){0, 0, 0, 1});
+    check_cells(4 * 255, (const uint8_t[4]){0, 0, 0, 1});
+    check_cells(1024, (const uint8_t[4]){1, 0, 0, 0});
+    check_cells(1024 + 4 * 3, (const uint8_t[4]){3, 0, 0, 0});
 }

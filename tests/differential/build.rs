@@ -1,11 +1,11 @@
-//! Compiles and links the C layers over the proved library, pci_bios.c and pci_driver.c of
-//! host/, or of the folder that HOST_DIR names.
+//! Compiles and links the C layers over the proved library, pci_bios.c, pci_driver.c and
+//! pci_cookie.c of host/, or of the folder that HOST_DIR names.
 
 use std::env;
 use std::path::{Path, PathBuf};
 use std::process::Command;
 
-const SOURCES: [&str; 2] = ["pci_bios", "pci_driver"];
+const SOURCES: [&str; 3] = ["pci_bios", "pci_driver", "pci_cookie"];
 const FLAGS: [&str; 6] = ["-std=c99", "-O2", "-Wall", "-Wextra", "-Wpedantic", "-Werror"];
 
 fn main() {

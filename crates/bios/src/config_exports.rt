@@ -9,13 +9,15 @@ use board::layout::Windows;
 use board::status::Status;
 use call::searches::class_answer;
 use call::searches::device_answer;
+use call_edition::edition::in_edition;
 use config_read::read::fast_read_config;
 use config_read::read::read_config;
 use config_write::write::write_config;
 ghost use mathlib.Core.Path.{_≡_};
 ghost use Rattle.board.specs.Handles.{functionCount};
 ghost use Rattle.board.specs.Layout.{registerByte};
-ghost use Rattle.search.specs.Search.{devices, classes, searchNumber};
+ghost use Rattle.call_edition.specs.Edition.{inEdition};
+ghost use Rattle.search.specs.Search.{soughtDevices, soughtClasses, soughtNumber};
 ghost use Rattle.config_write.specs.Write.{configWritten};
 ghost use Rattle.board.specs.FromC.{widthFromC};
 ghost use Rattle.bios.specs.Exports.{
@@ -28,19 +30,22 @@ ghost use Rattle.bios.specs.Exports.{
   cWriteConfig,
 };
 
-// The handle of the match with so many matches before it, or -4.
+// The handle of the match with so many matches before it, or -2, -3 or -4; the ID and the class are
+// named in a call edition.
 #[no_mangle]
 pub extern "C" fn bios_find_pci_device(
     header: &Header,
     registers: &Registers,
     id: u32,
     index: u32,
+    edition: u32,
 ) -> i32
-    ensures { λ r. ⌜ r ≡ searchNumber
-        (devices id (functionCount (now (header .entry))) (registerByte (now (registers .entry))))
+    ensures { λ r. ⌜ r ≡ soughtNumber
+        (soughtDevices (inEdition id edition)
+        (functionCount (now (header .entry))) (registerByte (now (registers .entry))))
         index ⌝ }
 {
-    let a = device_answer(header, registers, id, index);
+    let a = device_answer(header, registers, in_edition(id, edition), index);
     a.number
 }
 
@@ -50,13 +55,14 @@ pub extern "C" fn bios_find_pci_classcode(
     registers: &Registers,
     class: u32,
     index: u32,
+    edition: u32,
 ) -> i32
-    ensures { λ r. ⌜ r ≡ searchNumber
-        (classes class
+    ensures { λ r. ⌜ r ≡ soughtNumber
+        (soughtClasses (inEdition class edition)
         (functionCount (now (header .entry))) (registerByte (now (registers .entry))))
         index ⌝ }
 {
-    let a = class_answer(header, registers, class, index);
+    let a = class_answer(header, registers, in_edition(class, edition), index);
     a.number
 }
 

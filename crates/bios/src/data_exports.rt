@@ -1,5 +1,6 @@
-// Data calls and address conversions for C. A width is a number here; another than 1, 2 or 4 is
-// refused before all else.
+// Data calls and address conversions for C. The address of a data call is named in a call edition,
+// and a width is a number here: another than 1, 2 or 4 is refused after an unknown edition and
+// before all else.
 use address_convert::convert::bus_to_cpu;
 use address_convert::convert::cpu_to_bus;
 use board::address::BusAddress;
@@ -12,6 +13,7 @@ use data_access::c_calls::c_fast_read_data;
 use data_access::c_calls::c_read_data;
 use data_access::c_calls::c_write_data;
 ghost use mathlib.Core.Path.{_≡_};
+ghost use Rattle.call_edition.specs.Edition.{inEdition};
 ghost use Rattle.address_convert.specs.Convert.{busToCpu, cpuToBus};
 ghost use Rattle.data_access.specs.CCalls.{cReadData, cFastReadData, cWriteData};
 ghost use Rattle.data_access.specs.Data.{dataWritten};
@@ -39,12 +41,14 @@ pub extern "C" fn bios_read_data(
     width: u32,
     handle: u32,
     address: u32,
+    edition: u32,
     value: &mut u32,
 ) -> i32
     ensures { λ r. ⌜ readNumbers r (now (value .exit))
         ≡ cReadData (widthFromC width)
         (now (header .entry)) (now (records .entry)) (now (windows .entry)) (now (offsets .entry))
-        (now (cells .entry)) (spaceNumber (spaceFromC io)) handle address ⌝ }
+        (now (cells .entry)) (spaceNumber (spaceFromC io)) handle
+        (inEdition address edition) ⌝ }
 {
     let read = c_read_data(
         header,
@@ -56,6 +60,7 @@ pub extern "C" fn bios_read_data(
         width,
         handle,
         address,
+        edition,
     );
     *value = read.value;
     read.status.number()
@@ -73,12 +78,14 @@ pub extern "C" fn bios_fast_read_data(
     width: u32,
     handle: u32,
     address: u32,
+    edition: u32,
     fault: &mut u32,
 ) -> u32
     ensures { λ r. ⌜ fastNumbers r (now (fault .exit))
         ≡ fastShown (cFastReadData (widthFromC width)
         (now (header .entry)) (now (records .entry)) (now (windows .entry)) (now (offsets .entry))
-        (now (cells .entry)) (spaceNumber (spaceFromC io)) handle address) ⌝ }
+        (now (cells .entry)) (spaceNumber (spaceFromC io)) handle
+        (inEdition address edition)) ⌝ }
 {
     let read = c_fast_read_data(
         header,
@@ -90,6 +97,7 @@ pub extern "C" fn bios_fast_read_data(
         width,
         handle,
         address,
+        edition,
     );
     *fault = read.fault as u32;
     read.value
@@ -108,11 +116,13 @@ pub extern "C" fn bios_write_data(
     handle: u32,
     address: u32,
     value: u32,
+    edition: u32,
 ) -> i32
     ensures { λ r. ⌜ dataWritten (statusNumber r) (now (cells .exit))
         ≡ cWriteData (widthFromC width)
         (now (header .entry)) (now (records .entry)) (now (windows .entry)) (now (offsets .entry))
-        (now (cells .entry)) (spaceNumber (spaceFromC io)) handle address value ⌝ }
+        (now (cells .entry)) (spaceNumber (spaceFromC io)) handle
+        (inEdition address edition) value ⌝ }
 {
     let status = c_write_data(
         header,
@@ -125,6 +135,7 @@ pub extern "C" fn bios_write_data(
         handle,
         address,
         value,
+        edition,
     );
     status.number()
 }

@@ -49,6 +49,7 @@ use Rattle.board.specs.Statuses.{
   minus,
   successful,
   funcNotSupported,
+  badVendorId,
   deviceNotFound,
   badRegisterNumber,
   setFailed,
@@ -148,11 +149,12 @@ pub record BoardRows : Type 0 where
   -- big-endian, of both records
   pub offsets : map (offset twoRecords) (0 ∷ 1 ∷ []) ≡ 0x58595A5B ∷ 0x98999A9B ∷ []
   pub dmaOffsets : map (dmaOffset twoRecords) (0 ∷ 1 ∷ []) ≡ 0x5C5D5E5F ∷ 0x9C9D9E9F ∷ []
-  -- the numbers handed back, in document 01's order
+  -- the numbers handed back, in document 01's order, with request E1's -3
   pub numbers :
       map (λ (s : Status). s .0)
       (successful
       ∷ funcNotSupported
+      ∷ badVendorId
       ∷ deviceNotFound
       ∷ badRegisterNumber
       ∷ setFailed
@@ -162,6 +164,7 @@ pub record BoardRows : Type 0 where
       ∷ [])
       ≡ pos 0
       ∷ negℤ (pos 2)
+      ∷ negℤ (pos 3)
       ∷ negℤ (pos 4)
       ∷ negℤ (pos 5)
       ∷ negℤ (pos 6)

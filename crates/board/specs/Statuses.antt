@@ -1,4 +1,4 @@
--- The numbers handed back: document 01, "Numbers handed back".
+-- The numbers handed back: document 01, "Numbers handed back"; -3 is request E1's.
 use Prim.Native.Nat.{ℕ}
 use lib.IntN.{pos, negℤ}
 use Rattle.board.specs.declared.status.Status.{Status}
@@ -12,6 +12,9 @@ successful = record { 0 = pos 0 }
 
 abbrev pub funcNotSupported : Status
 funcNotSupported = minus 2
+
+abbrev pub badVendorId : Status
+badVendorId = minus 3
 
 abbrev pub deviceNotFound : Status
 deviceNotFound = minus 4

@@ -8,8 +8,12 @@ impl Status {
     // The call is accepted.
     pub const SUCCESSFUL: Status = Status(0);
 
-    // Special cycle, get routing, set interrupt: always. Data: width not offered.
+    // Special cycle, get routing, set interrupt: always. Data: width not offered. Searches and
+    // data: an edition of the call that is none.
     pub const FUNC_NOT_SUPPORTED: Status = Status(-2);
+
+    // Device search of draft 1.9: vendor FFFFh.
+    pub const BAD_VENDOR_ID: Status = Status(-3);
 
     // Searches, chain listing and window listing: past the end.
     pub const DEVICE_NOT_FOUND: Status = Status(-4);

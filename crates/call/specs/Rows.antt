@@ -61,12 +61,14 @@ pub record CallRows : Type 0 where
       ∷ said (pos 1) true (0 ∷ 0 ∷ 0 ∷ 0 ∷ 0 ∷ 0 ∷ [])
       ∷ said (pos 6) true (15 ∷ 0 ∷ 0 ∷ 0 ∷ 0 ∷ 0 ∷ [])
       ∷ []
-  -- a search's: a handle is no refusal, -4 is one
+  -- a search's: a handle is no refusal; -4, -3 and -2 are
   pub searches :
-      map ofSearch (pos 1 ∷ pos 16 ∷ negℤ (pos 4) ∷ [])
+      map ofSearch (pos 1 ∷ pos 16 ∷ negℤ (pos 4) ∷ negℤ (pos 3) ∷ negℤ (pos 2) ∷ [])
       ≡ said (pos 1) false (0 ∷ 0 ∷ 0 ∷ 0 ∷ 0 ∷ 0 ∷ [])
       ∷ said (pos 16) false (0 ∷ 0 ∷ 0 ∷ 0 ∷ 0 ∷ 0 ∷ [])
       ∷ refusal 4
+      ∷ refusal 3
+      ∷ refusal 2
       ∷ []
   -- a read's: the number and the value
   pub reads :

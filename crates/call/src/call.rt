@@ -1,8 +1,10 @@
 // The calls on a board, in groups: a group is a row of the tables that say what a call may touch
-// and when it is struck out. Operations are numbered in docs/SCRIPT.md.
+// and when it is struck out. Operations are numbered in docs/SCRIPT.md. Searches and data calls
+// name what they search for, or an address, in a call edition.
 use board::address::BusAddress;
 use board::address::CpuAddress;
 use board::space::Space;
+use call_edition::edition::InEdition;
 use numbers::number::Width;
 
 // What is done to registers or cells.
@@ -18,9 +20,9 @@ pub enum Access {
 // A call that changes nothing and has no buffer of its own: its answer is all there is.
 pub enum Query {
     // Operation 4.
-    FindPciDevice { id: u32, index: u32 },
+    FindPciDevice { id: InEdition, index: u32 },
     // Operation 5.
-    FindPciClasscode { class: u32, index: u32 },
+    FindPciClasscode { class: InEdition, index: u32 },
     // Operation 12.
     BusToCpu { handle: u32, address: BusAddress },
     // Operation 13.
@@ -59,7 +61,7 @@ pub enum Call {
         space: Space,
         width: Width,
         handle: u32,
-        address: BusAddress,
+        address: InEdition,
         access: Access,
     },
     // Operation 15.

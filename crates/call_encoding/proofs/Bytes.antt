@@ -19,11 +19,11 @@ use Rattle.call.specs.declared.answer.Answer.{Answer}
 use Rattle.call.specs.declared.call.Call.{Call}
 use Rattle.call_encoding.specs.Format.{valueBytes, answerBytes, fieldsOf, candidate, callHeader, encoded, headerFieldsAt, ownLength, sameBytes, decoded}
 
-pub header-put : (f : Fields) (own : ℕ) {h a b all : List ℕ}
+pub header-put : (f : Fields) (own : ℕ) {h a b c all : List ℕ}
     → h ≡ sets (f .operation ∷ f .width ∷ f .space ∷ f .register ∷ replicate 60 0) 4 (bigBytes 4 (f .handle))
-    → a ≡ sets h 8 (bigBytes 4 (f .a)) → b ≡ sets a 12 (bigBytes 4 (f .b)) → all ≡ sets b 60 (bigBytes 4 own) → all ≡ callHeader f own
+    → a ≡ sets h 8 (bigBytes 4 (f .a)) → b ≡ sets a 12 (bigBytes 4 (f .b)) → c ≡ sets b 16 (bigBytes 4 (f .c)) → all ≡ sets c 60 (bigBytes 4 own) → all ≡ callHeader f own
 unfolding callHeader tableFrom
-header-put f own h a b all = rw (all, b, a, h)
+header-put f own h a b c all = rw (all, c, b, a, h)
 
 -- the two halves of a value
 pub value-put : (l : List ℕ) (at v : ℕ) {h all : List ℕ} → h ≡ sets l at (bigBytes 4 (v / 4294967296))

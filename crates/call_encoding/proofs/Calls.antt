@@ -1,11 +1,11 @@
 -- The calls of the table: which is picked, and that each is picked by its own fields.
 use Prim.Native.Nat.{ℕ, zero, suc, _-_, _≤_}
 use native.Mathlib.Omega.{arith}
-use mathlib.Core.Bool.{Bool, true, false}
+use mathlib.Core.Bool.{Bool, true, false, cond}
 use mathlib.Core.Path.{_≡_, refl, sym}
-use lib.Dec.{ltb}
+use lib.Dec.{eqb, ltb}
 use lib.ListN.{length, getD, List·getD-eq-default}
-use borrow.Author.Tests.{ltb-true, ltb-false}
+use borrow.Author.Tests.{eqb-true, ltb-true, ltb-false}
 use Rattle.call.specs.declared.call.Call.{Call}
 use Rattle.call.specs.declared.call.Access.the-variants.{Read, FastRead, Write}
 use Rattle.call.specs.declared.call.Call.the-variants.{Load, Reset, WriteImage, Config, Data, GetResource, HookInterrupt, UnhookInterrupt, SetCardUsed, Ask}
@@ -17,7 +17,7 @@ use Rattle.numbers.specs.declared.number.Width.the-variants.{Byte, Word, Long}
 use Rattle.board.specs.Spaces.{spaceNumber}
 use Rattle.board.specs.declared.space.Space.{Space}
 use Rattle.board.specs.declared.space.Space.the-variants.{Memory, Io}
-use Rattle.call_encoding.specs.Format.{fieldsOf, widthOfByte, spaceOfByte, candidates, candidate}
+use Rattle.call_encoding.specs.Format.{exchanged, fieldsOf, widthOfByte, spaceOfByte, candidates, candidate}
 
 -- none of the numbers 1 to n
 abbrev pub NoneOf : ℕ → ℕ → Type 0
@@ -46,20 +46,29 @@ space-back : (s : Space) → spaceOfByte (spaceNumber s) ≡ s
 space-back Memory = refl
 space-back Io = refl
 
+-- an edition comes back from argument c
+exchanged-back : (n : ℕ) → exchanged (exchanged n) ≡ n
+exchanged-back n = by (eqb n 0) (eqb n 2) refl refl
+  where
+    by : (z t : Bool) → eqb n 0 ≡ z → eqb n 2 ≡ t → exchanged (cond z 2 (cond t 0 n)) ≡ n
+    by true t z e = sym (eqb-true n 0 z)
+    by false true z e = sym (eqb-true n 2 e)
+    by false false z e = rw (z, e)
+
 -- a call is picked by its own fields
 pub picked : (c : Call) → candidate (fieldsOf c) ≡ c
 unfolding candidate
 picked Load = refl
 picked Reset = refl
 picked WriteImage = refl
-picked (Ask (FindPciDevice id index)) = refl
-picked (Ask (FindPciClasscode class index)) = refl
+picked (Ask (FindPciDevice id index)) = rw (exchanged-back (id .edition))
+picked (Ask (FindPciClasscode class index)) = rw (exchanged-back (class .edition))
 picked (Config w h r Read) = rw (width-back w)
 picked (Config w h r FastRead) = rw (width-back w)
 picked (Config w h r (Write v)) = rw (width-back w)
-picked (Data s w h a Read) = rw (space-back s, width-back w)
-picked (Data s w h a FastRead) = rw (space-back s, width-back w)
-picked (Data s w h a (Write v)) = rw (space-back s, width-back w)
+picked (Data s w h a Read) = rw (space-back s, width-back w, exchanged-back (a .edition))
+picked (Data s w h a FastRead) = rw (space-back s, width-back w, exchanged-back (a .edition))
+picked (Data s w h a (Write v)) = rw (space-back s, width-back w, exchanged-back (a .edition))
 picked (Ask (BusToCpu h a)) = refl
 picked (Ask (CpuToBus h a)) = refl
 picked (Ask (ListWindow n)) = refl

@@ -27,17 +27,19 @@ module _ (f : Fields) (own : ℕ) where
   pub fields-back : Fits f → headerFieldsAt (callHeader f own) ≡ f
   unfolding first callHeader tableFrom
   fields-back k =
-      let after-b : List ℕ = replicate 44 0 ++ bigBytes 4 own in
+      let after-c : List ℕ = replicate 40 0 ++ bigBytes 4 own in
+      let after-b : List ℕ = bigBytes 4 (f .c) ++ after-c in
       let after-a : List ℕ = bigBytes 4 (f .b) ++ after-b in
       let h = big-bytes 4 (f .handle) first (bigBytes 4 (f .a) ++ after-a) ∙ whole (f .handle) (k .handle) in
       let a = big-bytes 4 (f .a) (first ++ bigBytes 4 (f .handle)) after-a ∙ whole (f .a) (k .a) in
       let b = big-bytes 4 (f .b) (first ++ (bigBytes 4 (f .handle) ++ bigBytes 4 (f .a))) after-b ∙ whole (f .b) (k .b) in
-      rw (h, a, b)
+      let c = big-bytes 4 (f .c) (first ++ (bigBytes 4 (f .handle) ++ (bigBytes 4 (f .a) ++ bigBytes 4 (f .b)))) after-c ∙ whole (f .c) (k .c) in
+      rw (h, a, b, c)
 
   pub own-back : U32 own → ownLength (callHeader f own) ≡ own
   unfolding first callHeader tableFrom
   own-back k =
-      big-bytes 4 own (first ++ (bigBytes 4 (f .handle) ++ (bigBytes 4 (f .a) ++ (bigBytes 4 (f .b) ++ replicate 44 0)))) [] ∙ whole own k
+      big-bytes 4 own (first ++ (bigBytes 4 (f .handle) ++ (bigBytes 4 (f .a) ++ (bigBytes 4 (f .b) ++ (bigBytes 4 (f .c) ++ replicate 40 0))))) [] ∙ whole own k
 
 pub encode-decode : EncodeDecode
 unfolding decoded

@@ -9,6 +9,8 @@ use lib.Dec.{eqb}
 use lib.ListN.{getD, replicate}
 use Rattle.numbers.specs.Numbers.{byteAt, bytes, big, bigBytes, bits}
 use Rattle.board.specs.Addresses.{bus, cpu}
+use Rattle.call_edition.specs.Edition.{inEdition}
+use Rattle.call_edition.specs.declared.edition.InEdition.{InEdition}
 use Rattle.numbers.specs.declared.number.Width.{Width}
 use Rattle.numbers.specs.declared.number.Width.the-variants.{Byte, Word, Long}
 use Rattle.board.specs.Spaces.{spaceNumber}
@@ -55,25 +57,47 @@ fields operation width space register handle a b =
       handle = handle;
       a = a;
       b = b;
+      c = 0;
     }
 
--- what each call says: operation, width, space, register or bus, handle, a, b
+-- argument c of the calls that name an edition: the edition, with 0 and 2 exchanged, so that where
+-- it is 0, as in every header from before request E1, it says the later text
+abbrev pub exchanged : ℕ → ℕ
+exchanged n = cond (eqb n 0) 2 (cond (eqb n 2) 0 n)
+
+abbrev pub withEdition : InEdition → Fields → Fields
+withEdition named f =
+    record {
+      operation = f .operation;
+      width = f .width;
+      space = f .space;
+      register = f .register;
+      handle = f .handle;
+      a = f .a;
+      b = f .b;
+      c = exchanged (named .edition);
+    }
+
+-- what each call says: operation, width, space, register or bus, handle, a, b; c of the calls that
+-- name an edition, and 0 of all others
 abbrev pub fieldsOf : Call → Fields
 fieldsOf Load = fields 1 0 0 0 0 0 0
 fieldsOf Reset = fields 2 0 0 0 0 0 0
 fieldsOf WriteImage = fields 3 0 0 0 0 0 0
-fieldsOf (Ask (FindPciDevice id index)) = fields 4 0 0 0 0 id index
-fieldsOf (Ask (FindPciClasscode class index)) = fields 5 0 0 0 0 class index
+fieldsOf (Ask (FindPciDevice id index)) = withEdition id (fields 4 0 0 0 0 (id .number) index)
+fieldsOf (Ask (FindPciClasscode class index)) =
+    withEdition class (fields 5 0 0 0 0 (class .number) index)
 fieldsOf (Config width handle register Read) = fields 6 (bytes width) 0 register handle 0 0
 fieldsOf (Config width handle register FastRead) = fields 7 (bytes width) 0 register handle 0 0
 fieldsOf (Config width handle register (Write value)) =
     fields 8 (bytes width) 0 register handle value 0
 fieldsOf (Data space width handle address Read) =
-    fields 9 (bytes width) (spaceNumber space) 0 handle (address .0) 0
+    withEdition address (fields 9 (bytes width) (spaceNumber space) 0 handle (address .number) 0)
 fieldsOf (Data space width handle address FastRead) =
-    fields 10 (bytes width) (spaceNumber space) 0 handle (address .0) 0
+    withEdition address (fields 10 (bytes width) (spaceNumber space) 0 handle (address .number) 0)
 fieldsOf (Data space width handle address (Write value)) =
-    fields 11 (bytes width) (spaceNumber space) 0 handle (address .0) value
+    withEdition address
+    (fields 11 (bytes width) (spaceNumber space) 0 handle (address .number) value)
 fieldsOf (Ask (BusToCpu handle address)) = fields 12 0 0 0 handle (address .0) 0
 fieldsOf (Ask (CpuToBus handle address)) = fields 13 0 0 0 handle (address .0) 0
 fieldsOf (Ask (ListWindow n)) = fields 14 0 0 0 0 n 0
@@ -101,17 +125,18 @@ candidates f =
     let s = spaceOfByte (f .space) in
     let h = f .handle in
     let r = f .register in
+    let named : InEdition = inEdition (f .a) (exchanged (f .c)) in
     Load
     ∷ Reset
     ∷ WriteImage
-    ∷ Ask (FindPciDevice (f .a) (f .b))
-    ∷ Ask (FindPciClasscode (f .a) (f .b))
+    ∷ Ask (FindPciDevice named (f .b))
+    ∷ Ask (FindPciClasscode named (f .b))
     ∷ Config w h r Read
     ∷ Config w h r FastRead
     ∷ Config w h r (Write (f .a))
-    ∷ Data s w h (bus (f .a)) Read
-    ∷ Data s w h (bus (f .a)) FastRead
-    ∷ Data s w h (bus (f .a)) (Write (f .b))
+    ∷ Data s w h named Read
+    ∷ Data s w h named FastRead
+    ∷ Data s w h named (Write (f .b))
     ∷ Ask (BusToCpu h (bus (f .a)))
     ∷ Ask (CpuToBus h (cpu (f .a)))
     ∷ Ask (ListWindow (f .a))
@@ -138,7 +163,8 @@ unfoldable pub callHeader : Fields → ℕ → List ℕ
 callHeader f own =
     f .operation ∷ f .width ∷ f .space ∷ f .register
     ∷ bigBytes 4 (f .handle)
-    ++ (bigBytes 4 (f .a) ++ (bigBytes 4 (f .b) ++ (replicate 44 0 ++ bigBytes 4 own)))
+    ++ (bigBytes 4 (f .a)
+    ++ (bigBytes 4 (f .b) ++ (bigBytes 4 (f .c) ++ (replicate 40 0 ++ bigBytes 4 own))))
 
 abbrev pub encoded : Call → ℕ → List ℕ
 encoded c own = callHeader (fieldsOf c) own
@@ -146,8 +172,16 @@ encoded c own = callHeader (fieldsOf c) own
 -- what stands at the positions of the fields and of that length
 abbrev pub headerFieldsAt : List ℕ → Fields
 headerFieldsAt l =
-    fields (byteAt l 0) (byteAt l 1) (byteAt l 2) (byteAt l 3)
-    (big 4 (byteAt l) 4) (big 4 (byteAt l) 8) (big 4 (byteAt l) 12)
+    record {
+      operation = byteAt l 0;
+      width = byteAt l 1;
+      space = byteAt l 2;
+      register = byteAt l 3;
+      handle = big 4 (byteAt l) 4;
+      a = big 4 (byteAt l) 8;
+      b = big 4 (byteAt l) 12;
+      c = big 4 (byteAt l) 16;
+    }
 
 abbrev pub ownLength : List ℕ → ℕ
 ownLength l = big 4 (byteAt l) 60

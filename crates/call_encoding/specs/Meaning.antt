@@ -15,6 +15,7 @@ pub record Fits (f : Fields) : Type 0 where
   pub handle : U32 (f .handle)
   pub a : U32 (f .a)
   pub b : U32 (f .b)
+  pub c : U32 (f .c)
 
 -- the types can hold this call
 abbrev pub TypesHold : Call → Type 0

@@ -5,8 +5,9 @@ use mathlib.Core.Bool.{Bool, true, false}
 use mathlib.Core.List.{List, [], _∷_, _++_, map}
 use mathlib.Core.Path.{_≡_}
 use lib.IntN.{pos, negℤ}
-use lib.ListN.{set, replicate, take}
+use lib.ListN.{set, replicate, take, drop}
 use Rattle.board.specs.Addresses.{bus, cpu}
+use Rattle.call_edition.specs.Edition.{inEdition, inLater}
 use Rattle.board.specs.declared.space.Space.the-variants.{Memory, Io}
 use Rattle.numbers.specs.declared.number.Width.the-variants.{Byte, Word, Long}
 use Rattle.call.specs.declared.call.Call.{Call}
@@ -39,20 +40,20 @@ use Rattle.call_encoding.specs.declared.decode.Decoded.{Decoded}
 use Rattle.call_encoding.specs.declared.decode.Decoded.the-variants.{Known, Malformed}
 use Rattle.call_encoding.specs.Format.{encoded, decoded, answerBytes}
 
--- the calls by operation, no two arguments alike
+-- the calls by operation, no two arguments alike; in the later text
 abbrev calls : List Call
 calls =
     Load
     ∷ Reset
     ∷ WriteImage
-    ∷ Ask (FindPciDevice 0x05060708 0x090A0B0C)
-    ∷ Ask (FindPciClasscode 0x05060708 0x090A0B0C)
+    ∷ Ask (FindPciDevice (inLater 0x05060708) 0x090A0B0C)
+    ∷ Ask (FindPciClasscode (inLater 0x05060708) 0x090A0B0C)
     ∷ Config Byte 0x01020304 13 Read
     ∷ Config Word 0x01020304 13 FastRead
     ∷ Config Long 0x01020304 13 (Write 0x05060708)
-    ∷ Data Memory Byte 0x01020304 (bus 0x05060708) Read
-    ∷ Data Io Word 0x01020304 (bus 0x05060708) FastRead
-    ∷ Data Io Long 0x01020304 (bus 0x05060708) (Write 0x090A0B0C)
+    ∷ Data Memory Byte 0x01020304 (inLater 0x05060708) Read
+    ∷ Data Io Word 0x01020304 (inLater 0x05060708) FastRead
+    ∷ Data Io Long 0x01020304 (inLater 0x05060708) (Write 0x090A0B0C)
     ∷ Ask (BusToCpu 0x01020304 (bus 0x05060708))
     ∷ Ask (CpuToBus 0x01020304 (cpu 0x05060708))
     ∷ Ask (ListWindow 0x05060708)
@@ -106,6 +107,20 @@ deviceSearch =
     4 ∷ 0 ∷ 0 ∷ 0 ∷ 0 ∷ 0 ∷ 0 ∷ 0 ∷ 5 ∷ 6 ∷ 7 ∷ 8 ∷ 9 ∷ 10 ∷ 11 ∷ 12
     ∷ replicate 44 0 ++ 0 ∷ 0 ∷ 0 ∷ 0 ∷ []
 
+-- argument c of a call
+abbrev c : Call → List ℕ
+c call = take 4 (drop 16 (encoded call 0))
+
+-- the calls that name an edition, in one
+abbrev namedIn : ℕ → List Call
+namedIn edition =
+    Ask (FindPciDevice (inEdition 5 edition) 6)
+    ∷ Ask (FindPciClasscode (inEdition 5 edition) 6)
+    ∷ Data Memory Byte 1 (inEdition 5 edition) Read
+    ∷ Data Memory Byte 1 (inEdition 5 edition) FastRead
+    ∷ Data Memory Byte 1 (inEdition 5 edition) (Write 6)
+    ∷ []
+
 abbrev isCall : Decoded → Bool
 isCall (Known call own) = true
 isCall Malformed = false
@@ -113,15 +128,17 @@ isCall Malformed = false
 pub record CallEncodingRows : Type 0 where
   -- bytes 0..15 of every call
   pub headers : map (λ c. take 16 (encoded c 0)) calls ≡ starts
-  -- 16..59 are 0, 60..63 the length of the call's own buffer
+  -- 16..59 are 0 in the later text, 60..63 the length of the call's own buffer
   pub wholeWrite :
-      encoded (Data Io Long 0x01020304 (bus 0x05060708) (Write 0x090A0B0C)) 0x0E0F1011 ≡ dataWrite
-  pub wholeSearch : encoded (Ask (FindPciDevice 0x05060708 0x090A0B0C)) 0 ≡ deviceSearch
+      encoded (Data Io Long 0x01020304 (inLater 0x05060708) (Write 0x090A0B0C)) 0x0E0F1011
+      ≡ dataWrite
+  pub wholeSearch : encoded (Ask (FindPciDevice (inLater 0x05060708) 0x090A0B0C)) 0 ≡ deviceSearch
   -- and read back
   pub readWrite :
       decoded dataWrite
-      ≡ Known (Data Io Long 0x01020304 (bus 0x05060708) (Write 0x090A0B0C)) 0x0E0F1011
-  pub readSearch : decoded deviceSearch ≡ Known (Ask (FindPciDevice 0x05060708 0x090A0B0C)) 0
+      ≡ Known (Data Io Long 0x01020304 (inLater 0x05060708) (Write 0x090A0B0C)) 0x0E0F1011
+  pub readSearch :
+      decoded deviceSearch ≡ Known (Ask (FindPciDevice (inLater 0x05060708) 0x090A0B0C)) 0
   -- malformed: another operation
   pub operations :
       map (λ n. isCall (decoded (n ∷ replicate 63 0))) (0 ∷ 1 ∷ 23 ∷ 24 ∷ 255 ∷ [])
@@ -135,11 +152,30 @@ pub record CallEncodingRows : Type 0 where
       map (λ n. isCall (decoded (9 ∷ 1 ∷ n ∷ replicate 61 0))) (0 ∷ 1 ∷ 2 ∷ [])
       ≡ true ∷ true ∷ false ∷ []
   -- a byte that is to be 0 and is not: of a search width, space, register, handle and the bytes
-  -- after b, and not its arguments and its length
+  -- after c, and not its arguments and its length
   pub unused :
       map (λ i. isCall (decoded (set deviceSearch i 1)))
-      (1 ∷ 2 ∷ 3 ∷ 4 ∷ 7 ∷ 16 ∷ 59 ∷ 15 ∷ 60 ∷ [])
-      ≡ false ∷ false ∷ false ∷ false ∷ false ∷ false ∷ false ∷ true ∷ true ∷ []
+      (1 ∷ 2 ∷ 3 ∷ 4 ∷ 7 ∷ 20 ∷ 59 ∷ 15 ∷ 16 ∷ 19 ∷ 60 ∷ [])
+      ≡ false ∷ false ∷ false ∷ false ∷ false ∷ false ∷ false ∷ true ∷ true ∷ true ∷ true ∷ []
+  -- 16..19: the edition with 0 and 2 exchanged, of searches and data calls
+  pub editions :
+      map (λ e. map c (namedIn e)) (0 ∷ 1 ∷ 2 ∷ 3 ∷ 0x102 ∷ 0xFFFFFFFF ∷ [])
+      ≡ replicate 5 (0 ∷ 0 ∷ 0 ∷ 2 ∷ [])
+      ∷ replicate 5 (0 ∷ 0 ∷ 0 ∷ 1 ∷ [])
+      ∷ replicate 5 (0 ∷ 0 ∷ 0 ∷ 0 ∷ [])
+      ∷ replicate 5 (0 ∷ 0 ∷ 0 ∷ 3 ∷ [])
+      ∷ replicate 5 (0 ∷ 0 ∷ 1 ∷ 2 ∷ [])
+      ∷ replicate 5 (0xFF ∷ 0xFF ∷ 0xFF ∷ 0xFF ∷ [])
+      ∷ []
+  pub readEditions :
+      map (λ n. decoded (set deviceSearch 19 n)) (0 ∷ 1 ∷ 2 ∷ 3 ∷ [])
+      ≡ map (λ e. Known (Ask (FindPciDevice (inEdition 0x05060708 e) 0x090A0B0C)) 0)
+      (2 ∷ 1 ∷ 0 ∷ 3 ∷ [])
+  -- and of no other call
+  pub noEdition :
+      map (λ call. isCall (decoded (set (encoded call 0) 19 1))) calls
+      ≡ false ∷ false ∷ false ∷ true ∷ true ∷ false ∷ false ∷ false ∷ true ∷ true ∷ true
+      ∷ replicate 12 false
   -- 63, 64 and 65 bytes
   pub sizes :
       map (λ n. isCall (decoded (1 ∷ replicate n 0))) (62 ∷ 63 ∷ 64 ∷ [])

@@ -31,6 +31,7 @@ fn header_fields_at(header: &[u8]) -> Fields
         handle: big_at(header, 4, Width::Long),
         a: big_at(header, 8, Width::Long),
         b: big_at(header, 12, Width::Long),
+        c: big_at(header, 16, Width::Long),
     }
 }
 

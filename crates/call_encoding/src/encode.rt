@@ -26,6 +26,7 @@ pub(crate) fn call_header(f: Fields, own: u32) -> CallHeader
     put_big(&mut out, 4, Width::Long, f.handle);
     put_big(&mut out, 8, Width::Long, f.a);
     put_big(&mut out, 12, Width::Long, f.b);
+    put_big(&mut out, 16, Width::Long, f.c);
     put_big(&mut out, OWN_LENGTH, Width::Long, own);
     out
 }

@@ -6,13 +6,17 @@ use board::space::Space;
 use call::Access;
 use call::Call;
 use call::Query;
+use call_edition::edition::InEdition;
+use call_edition::edition::in_edition;
 use numbers::number::Width;
 use numbers::number::bytes;
 ghost use mathlib.Core.Path.{_≡_};
 ghost use Rattle.board.specs.Spaces.{spaceNumber};
 ghost use Rattle.call.specs.declared.call.Call.the-variants.{Ask};
 ghost use Rattle.call_encoding.specs.Format.{
+  exchanged,
   fields,
+  withEdition,
   fieldsOf,
   candidate,
   widthOfByte,
@@ -28,6 +32,7 @@ pub struct Fields {
     pub handle: u32,
     pub a: u32,
     pub b: u32,
+    pub c: u32,
 }
 
 fn row(operation: u8, width: u8, space: u8, register: u8, handle: u32, a: u32, b: u32) -> Fields
@@ -41,7 +46,28 @@ fn row(operation: u8, width: u8, space: u8, register: u8, handle: u32, a: u32, b
         handle: handle,
         a: a,
         b: b,
+        c: 0,
     }
+}
+
+// Argument c of an edition, and back: 0 and 2 are exchanged, so that c 0 is the later text.
+fn edition_exchanged(edition: u32) -> u32
+    ensures { λ r. ⌜ r ≡ exchanged edition ⌝ }
+{
+    match edition {
+        0 => 2,
+        2 => 0,
+        other => other,
+    }
+}
+
+// The fields with the edition in which a call names something.
+fn with_edition(named: InEdition, f: Fields) -> Fields
+    ensures { λ r. ⌜ r ≡ withEdition named f ⌝ }
+{
+    let mut out = f;
+    out.c = edition_exchanged(named.edition);
+    out
 }
 
 // The byte of a space.
@@ -59,8 +85,12 @@ fn query_fields(query: Query) -> Fields
     ensures { λ r. ⌜ r ≡ fieldsOf (Ask query) ⌝ }
 {
     match query {
-        Query::FindPciDevice { id, index } => row(4, 0, 0, 0, 0, id, index),
-        Query::FindPciClasscode { class, index } => row(5, 0, 0, 0, 0, class, index),
+        Query::FindPciDevice { id, index } => {
+            with_edition(id, row(4, 0, 0, 0, 0, id.number, index))
+        }
+        Query::FindPciClasscode { class, index } => {
+            with_edition(class, row(5, 0, 0, 0, 0, class.number, index))
+        }
         Query::BusToCpu { handle, address } => row(12, 0, 0, 0, handle, address.number(), 0),
         Query::CpuToBus { handle, address } => row(13, 0, 0, 0, handle, address.number(), 0),
         Query::ListWindow { index } => row(14, 0, 0, 0, 0, index, 0),
@@ -102,11 +132,13 @@ pub fn fields_of(call: Call) -> Fields
         } => {
             let w = bytes(width);
             let s = space_number(space);
-            let a = address.number();
+            let a = address.number;
             match access {
-                Access::Read => row(9, w, s, 0, handle, a, 0),
-                Access::FastRead => row(10, w, s, 0, handle, a, 0),
-                Access::Write { value } => row(11, w, s, 0, handle, a, value),
+                Access::Read => with_edition(address, row(9, w, s, 0, handle, a, 0)),
+                Access::FastRead => with_edition(address, row(10, w, s, 0, handle, a, 0)),
+                Access::Write { value } => {
+                    with_edition(address, row(11, w, s, 0, handle, a, value))
+                }
             }
         }
         Call::GetResource { handle } => row(15, 0, 0, 0, handle, 0, 0),
@@ -159,12 +191,19 @@ pub fn call_of(f: Fields) -> Call
     let handle = f.handle;
     let a = f.a;
     let b = f.b;
+    let named = in_edition(a, edition_exchanged(f.c));
     match operation {
         1 => Call::Load,
         2 => Call::Reset,
         3 => Call::WriteImage,
-        4 => Call::Ask(Query::FindPciDevice { id: a, index: b }),
-        5 => Call::Ask(Query::FindPciClasscode { class: a, index: b }),
+        4 => Call::Ask(Query::FindPciDevice {
+            id: named,
+            index: b,
+        }),
+        5 => Call::Ask(Query::FindPciClasscode {
+            class: named,
+            index: b,
+        }),
         6 => Call::Config {
             width: width,
             handle: handle,
@@ -187,21 +226,21 @@ pub fn call_of(f: Fields) -> Call
             space: space,
             width: width,
             handle: handle,
-            address: BusAddress::of(a),
+            address: named,
             access: Access::Read,
         },
         10 => Call::Data {
             space: space,
             width: width,
             handle: handle,
-            address: BusAddress::of(a),
+            address: named,
             access: Access::FastRead,
         },
         11 => Call::Data {
             space: space,
             width: width,
             handle: handle,
-            address: BusAddress::of(a),
+            address: named,
             access: Access::Write { value: b },
         },
         12 => Call::Ask(Query::BusToCpu {

@@ -16,7 +16,7 @@ use Rattle.board.specs.declared.status.Status.{Status}
 use Rattle.data_order.specs.Orders.{ordered}
 use Rattle.data_window.specs.Find.{statusOf}
 use Rattle.data_window.specs.declared.refusal.DataRefusal.{DataRefusal}
-use Rattle.data_window.specs.declared.refusal.DataRefusal.the-variants.{BadHandle, ShortCells, NotAligned, Nothing, Contested, WidthMissing, PastBuffer}
+use Rattle.data_window.specs.declared.refusal.DataRefusal.the-variants.{UnknownEdition, BadHandle, ShortCells, NotAligned, Nothing, Contested, WidthMissing, PastBuffer}
 use Rattle.data_cells.specs.declared.target.CellTarget.{CellTarget}
 use Rattle.data_cells.specs.declared.target.CellTarget.the-variants.{At, Refused}
 use Rattle.data_cells.specs.Cells.{cellTarget, cellsValue}
@@ -30,6 +30,7 @@ below-zero : (n : ℕ) → minus (suc n) ≡ successful → ⊥
 below-zero n e = let z : _≡_ {A = ℕ} 0 1 = cc (ap (λ (x : Status). x .0) e) in omega arith
 
 refused-number : (r : DataRefusal) → statusOf r ≡ successful → ⊥
+refused-number UnknownEdition = below-zero 1
 refused-number BadHandle = below-zero 8
 refused-number ShortCells = below-zero 6
 refused-number NotAligned = below-zero 7

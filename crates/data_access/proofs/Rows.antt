@@ -29,4 +29,16 @@ data-access-rows =
       cFastOtherBad = refl;
       cWriteOther = refl;
       cWriteOtherBad = refl;
+      draftRead = refl;
+      draftFast = refl;
+      draftWrite = refl;
+      draftOther = refl;
+      unknownRead = refl;
+      unknownFast = refl;
+      unknownWrite = refl;
+      cEditions = refl;
+      cEditionsBad = refl;
+      cFastEditions = refl;
+      cFastEditionsBad = refl;
+      cWriteEditions = refl;
     }

@@ -1,4 +1,5 @@
--- Data reads and writes: document 01, "Data and byte order" and "Numbers handed back".
+-- Data reads and writes: document 01, "Data and byte order" and "Numbers handed back"; the address
+-- is named in a call edition: request E1.
 use Prim.Native.Nat.{ℕ, _+_, _≤_}
 use mathlib.Core.List.{List}
 use mathlib.Core.Path.{_≡_}
@@ -8,6 +9,7 @@ use Rattle.board.specs.Statuses.{successful}
 use Rattle.board.specs.declared.read.Read.{Read}
 use Rattle.board.specs.declared.read.FastRead.{FastRead}
 use Rattle.board.specs.declared.status.Status.{Status}
+use Rattle.call_edition.specs.declared.edition.InEdition.{InEdition}
 use Rattle.data_window.specs.Find.{statusOf}
 use Rattle.data_cells.specs.declared.target.CellTarget.{CellTarget}
 use Rattle.data_cells.specs.declared.target.CellTarget.the-variants.{At, Refused}
@@ -38,16 +40,18 @@ writeAt w value cells (At at order) = dataWritten successful (cellsAfter order w
 writeAt w value cells (Refused r) = dataWritten (statusOf r) cells
 
 -- of the lent parts
-abbrev pub readData : ℕ → List ℕ → List ℕ → List ℕ → List ℕ → List ℕ → ℕ → ℕ → ℕ → Read
+abbrev pub readData : ℕ → List ℕ → List ℕ → List ℕ → List ℕ → List ℕ → ℕ → ℕ → InEdition → Read
 readData w header records windows offsets cells space handle address =
     readAt w cells (cellTarget w header records windows offsets (length cells) space handle address)
 
-abbrev pub fastReadData : ℕ → List ℕ → List ℕ → List ℕ → List ℕ → List ℕ → ℕ → ℕ → ℕ → FastRead
+abbrev pub fastReadData : ℕ → List ℕ → List ℕ → List ℕ → List ℕ → List ℕ → ℕ → ℕ → InEdition
+    → FastRead
 fastReadData w header records windows offsets cells space handle address =
     fastReadAt w cells
     (cellTarget w header records windows offsets (length cells) space handle address)
 
-abbrev pub writeData : ℕ → List ℕ → List ℕ → List ℕ → List ℕ → List ℕ → ℕ → ℕ → ℕ → ℕ → DataWritten
+abbrev pub writeData : ℕ → List ℕ → List ℕ → List ℕ → List ℕ → List ℕ → ℕ → ℕ → InEdition → ℕ
+    → DataWritten
 writeData w header records windows offsets cells space handle address value =
     writeAt w value cells
     (cellTarget w header records windows offsets (length cells) space handle address)

@@ -8,6 +8,7 @@ use mathlib.Core.Path.{_≡_}
 use lib.ListN.{length}
 use Rattle.board.specs.Reads.{acceptedRead}
 use Rattle.board.specs.Statuses.{successful}
+use Rattle.call_edition.specs.declared.edition.InEdition.{InEdition}
 use Rattle.data_cells.specs.declared.target.CellTarget.{CellTarget}
 use Rattle.data_cells.specs.declared.target.CellTarget.the-variants.{At, Refused}
 use Rattle.data_cells.specs.Cells.{cellTarget}
@@ -17,7 +18,8 @@ use Rattle.data_access.specs.Data.{readData, fastReadData, writeData}
 -- gives all ones of its width
 abbrev pub FastDataReadAgrees : Type 0
 FastDataReadAgrees =
-    (w : ℕ) (header records windows offsets cells : List ℕ) (space handle address : ℕ)
+    (w : ℕ) (header records windows offsets cells : List ℕ) (space handle : ℕ)
+    (address : InEdition)
     → ((fastReadData w header records windows offsets cells space handle address .fault ≡ false)
     ↔ (readData w header records windows offsets cells space handle address .status ≡ successful))
     × ((fastReadData w header records windows offsets cells space handle address .fault ≡ false
@@ -30,7 +32,8 @@ FastDataReadAgrees =
 -- after an accepted write the same read gives the value back, of which the low w bytes were taken
 abbrev pub DataReadBack : Type 0
 DataReadBack =
-    (w : ℕ) (header records windows offsets cells : List ℕ) (space handle address value : ℕ)
+    (w : ℕ) (header records windows offsets cells : List ℕ) (space handle : ℕ)
+    (address : InEdition) (value : ℕ)
     → writeData w header records windows offsets cells space handle address value .status
     ≡ successful
     → readData w header records windows offsets
@@ -43,10 +46,10 @@ abbrev pub HasCell : ℕ → CellTarget → ℕ → Type 0
 HasCell w (At at order) j = (at ≤ j) × (j < at + w)
 HasCell w (Refused r) j = ⊥
 
--- every read, of any width, space, handle and address, that has none of a write's cells is after
--- the write as before it, refused or accepted, plain or fast
+-- every read, of any width, space, handle, address and edition, that has none of a write's cells is
+-- after the write as before it, refused or accepted, plain or fast
 pub record SameReads (w : ℕ) (header records windows offsets cells left : List ℕ)
-    (space handle address : ℕ) : Type 0 where
+    (space handle : ℕ) (address : InEdition) : Type 0 where
   pub plain : readData w header records windows offsets left space handle address
       ≡ readData w header records windows offsets cells space handle address
   pub fast : fastReadData w header records windows offsets left space handle address
@@ -55,7 +58,7 @@ pub record SameReads (w : ℕ) (header records windows offsets cells left : List
 abbrev pub OtherReadsKept : Type 0
 OtherReadsKept =
     (header records windows offsets cells : List ℕ)
-    (w space handle address value w′ space′ handle′ address′ : ℕ)
+    (w space handle : ℕ) (address : InEdition) (value w′ space′ handle′ : ℕ) (address′ : InEdition)
     → ((j : ℕ)
     → HasCell w (cellTarget w header records windows offsets (length cells) space handle address) j
     → HasCell w′

@@ -1,5 +1,6 @@
 -- Rows with literal numbers of document 01, "Numbers handed back" and "Data and byte order": data
--- calls of one small board, accepted and refused, and those of C with a width that is none.
+-- calls of one small board, accepted and refused, and those of C with a width that is none; and of
+-- request E1: the same in each call edition.
 use Prim.Native.Nat.{ℕ}
 use mathlib.Core.Bool.{Bool, true, false}
 use mathlib.Core.List.{List, [], _∷_, _++_, map}
@@ -9,6 +10,8 @@ use lib.ListN.{replicate}
 use Rattle.board.specs.FromC.{widthFromC}
 use Rattle.board.specs.declared.read.Read.{Read}
 use Rattle.board.specs.declared.read.FastRead.{FastRead}
+use Rattle.call_edition.specs.Edition.{inEdition, inLater}
+use Rattle.call_edition.specs.declared.edition.InEdition.{InEdition}
 use Rattle.window.specs.Kept.{pack}
 use Rattle.window.specs.Rows.{mem, clear, contested}
 use Rattle.data_access.specs.Data.{DataWritten, readData, fastReadData, writeData}
@@ -25,14 +28,15 @@ abbrev written : ℤ → List ℕ → DataWritten
 written status cells = record { status = record { 0 = status }; cells = cells }
 
 -- a board of one function with memory windows of 16 cells each: base register 0 in order 1 and 1 in
--- order 2, with all widths, 2 contested, 3 for bytes alone
+-- order 2, with all widths, 2 contested, 3 for bytes alone; its offset is F0000000h
 abbrev header : List ℕ
 header = 1 ∷ 0 ∷ 0 ∷ 0 ∷ []
 
 abbrev records : List ℕ
 records =
     replicate 512 0
-    ++ (4 ∷ 1 ∷ 7 ∷ 0 ∷ 4 ∷ 2 ∷ 7 ∷ 0 ∷ 4 ∷ 0 ∷ 7 ∷ 0 ∷ 4 ∷ 0 ∷ 1 ∷ 0 ∷ replicate 16 0)
+    ++ (4 ∷ 1 ∷ 7 ∷ 0 ∷ 4 ∷ 2 ∷ 7 ∷ 0 ∷ 4 ∷ 0 ∷ 7 ∷ 0 ∷ 4 ∷ 0 ∷ 1 ∷ 0 ∷ replicate 8 0)
+    ++ (0xF0 ∷ replicate 7 0)
 
 abbrev windows : List ℕ
 windows =
@@ -62,12 +66,22 @@ cells more = cellsOf p13 p13 more
 pub record Access : Type 0 where
   pub width : ℕ
   pub handle : ℕ
-  pub address : ℕ
+  pub address : InEdition
   pub lent : ℕ
 
 abbrev access : ℕ → ℕ → ℕ → ℕ → Access
 access width handle address lent =
-    record { width = width; handle = handle; address = address; lent = lent }
+    record { width = width; handle = handle; address = inLater address; lent = lent }
+
+-- the same in another edition
+abbrev renamed : ℕ → ℕ → Access → Access
+renamed number edition a =
+    record {
+      width = a .width;
+      handle = a .handle;
+      address = inEdition number edition;
+      lent = a .lent;
+    }
 
 abbrev plain : Access → Read
 plain a =
@@ -102,19 +116,38 @@ refused =
     ∷ access 4 1 0xA0000000 44
     ∷ []
 
--- calls of C by their width, with a handle and the cells of this board
+-- the same with an edition that is none
+abbrev unknown : List Access
+unknown = map (renamed 0x80000000 3) (accepted ++ refused)
+
+-- calls of C by their edition and width, with a handle and the cells of this board
+abbrev cPlainIn : ℕ → ℕ → ℕ → Read
+cPlainIn edition handle width =
+    cReadData (widthFromC width) header records windows offsets (cells 44) 0 handle
+    (inEdition 0x80000000 edition)
+
+abbrev cFastIn : ℕ → ℕ → ℕ → FastRead
+cFastIn edition handle width =
+    cFastReadData (widthFromC width) header records windows offsets (cells 44) 0 handle
+    (inEdition 0x80000000 edition)
+
+abbrev cWriteIn : ℕ → ℕ → ℕ → DataWritten
+cWriteIn edition handle width =
+    cWriteData (widthFromC width) header records windows offsets (cells 44) 0 handle
+    (inEdition 0x80000000 edition) 0x89ABCDEF
+
 abbrev cPlain : ℕ → ℕ → Read
-cPlain handle width =
-    cReadData (widthFromC width) header records windows offsets (cells 44) 0 handle 0x80000000
+cPlain = cPlainIn 2
 
 abbrev cFast : ℕ → ℕ → FastRead
-cFast handle width =
-    cFastReadData (widthFromC width) header records windows offsets (cells 44) 0 handle 0x80000000
+cFast = cFastIn 2
 
 abbrev cWrite : ℕ → ℕ → DataWritten
-cWrite handle width =
-    cWriteData (widthFromC width) header records windows offsets (cells 44) 0 handle 0x80000000
-    0x89ABCDEF
+cWrite = cWriteIn 2
+
+-- editions with a handle and a width
+abbrev someEditions : List ℕ
+someEditions = 0 ∷ 1 ∷ 2 ∷ 3 ∷ 0x102 ∷ []
 
 pub record DataAccessRows : Type 0 where
   -- in order 1 (P13)
@@ -181,3 +214,35 @@ pub record DataAccessRows : Type 0 where
   pub cWriteOtherBad : map (cWrite 2) (3 ∷ 0 ∷ 8 ∷ 1 ∷ [])
       ≡ replicate 3 (written (negℤ (pos 8)) (cells 44))
       ++ (written (negℤ (pos 9)) (cells 44) ∷ [])
+  -- in draft 1.9 the CPU address, which is the bus address plus F0000000h, reaches the same cells
+  pub draftRead : map (λ a. plain (renamed 0x70000000 1 a)) accepted ≡ map plain accepted
+  pub draftFast : map (λ a. fast (renamed 0x70000000 1 a)) accepted ≡ map fast accepted
+  pub draftWrite : map (λ a. write (renamed 0x70000000 1 a)) accepted ≡ map write accepted
+  -- the bus address is another one there
+  pub draftOther : map (λ a. plain (renamed 0x80000000 1 a)) accepted
+      ≡ read (negℤ (pos 8)) 0 ∷ read (negℤ (pos 8)) 0 ∷ read (negℤ (pos 8)) 0 ∷ []
+  -- an unknown edition is -2 whatever else is wrong, with 0, all ones of the width, and nothing
+  -- written
+  pub unknownRead : map plain unknown ≡ replicate 9 (read (negℤ (pos 2)) 0)
+  pub unknownFast : map fast unknown
+      ≡ fastRead 0xFF true
+      ∷ fastRead 0xFFFF true
+      ∷ fastRead 0xFFFFFFFF true
+      ∷ fastRead 0xFF true
+      ∷ fastRead 0xFFFF true
+      ∷ fastRead 0xFFFFFFFF true
+      ∷ fastRead 0xFF true
+      ∷ fastRead 0xFFFF true
+      ∷ fastRead 0xFFFFFFFF true
+      ∷ []
+  pub unknownWrite : map write unknown
+      ≡ map (λ (a : Access). written (negℤ (pos 2)) (cells (a .lent))) (accepted ++ refused)
+  -- before a width of C that is none, and before the handle
+  pub cEditions : map (λ e. cPlainIn e 1 3) someEditions
+      ≡ map (λ n. read (negℤ (pos n)) 0) (2 ∷ 8 ∷ 8 ∷ 2 ∷ 2 ∷ [])
+  pub cEditionsBad : map (λ e. cPlainIn e 2 4) someEditions
+      ≡ map (λ n. read (negℤ (pos n)) 0) (2 ∷ 9 ∷ 9 ∷ 2 ∷ 2 ∷ [])
+  pub cFastEditions : map (λ e. cFastIn e 1 3) someEditions ≡ replicate 5 (fastRead 0xFFFFFFFF true)
+  pub cFastEditionsBad : map (λ e. cFastIn e 2 1) someEditions ≡ replicate 5 (fastRead 0xFF true)
+  pub cWriteEditions : map (λ e. cWriteIn e 1 3) someEditions
+      ≡ map (λ n. written (negℤ (pos n)) (cells 44)) (2 ∷ 8 ∷ 8 ∷ 2 ∷ 2 ∷ [])

@@ -1,5 +1,5 @@
 // Data calls: the cells of an access are worked out, or the check that fails, and then read or
-// written.
+// written. An address is named in a call edition.
 use crate::at_cells::fast_read_at;
 use crate::at_cells::read_at;
 use crate::at_cells::write_at;
@@ -11,7 +11,7 @@ use board::read::FastRead;
 use board::read::Read;
 use board::status::Status;
 use data_cells::target::cell_target;
-use data_window::find::DataAddress;
+use data_window::named::NamedAddress;
 ghost use mathlib.Core.Path.{_≡_};
 ghost use Rattle.numbers.specs.Numbers.{bytes};
 ghost use Rattle.board.specs.Spaces.{spaceNumber};
@@ -24,11 +24,11 @@ pub fn read_data(
     windows: &Windows,
     offsets: &CellOffsets,
     cells: &[u8],
-    at: DataAddress,
+    at: NamedAddress,
 ) -> Read
     ensures { λ r. ⌜ r ≡ readData (bytes (at .width))
         (now (header .entry)) (now (records .entry)) (now (windows .entry)) (now (offsets .entry))
-        (now (cells .entry)) (spaceNumber (at .space)) (at .handle) (at .address .0) ⌝ }
+        (now (cells .entry)) (spaceNumber (at .space)) (at .handle) (at .address) ⌝ }
 {
     let width = at.width;
     let target = cell_target(header, records, windows, offsets, cells.len(), at);
@@ -42,11 +42,11 @@ pub fn fast_read_data(
     windows: &Windows,
     offsets: &CellOffsets,
     cells: &[u8],
-    at: DataAddress,
+    at: NamedAddress,
 ) -> FastRead
     ensures { λ r. ⌜ r ≡ fastReadData (bytes (at .width))
         (now (header .entry)) (now (records .entry)) (now (windows .entry)) (now (offsets .entry))
-        (now (cells .entry)) (spaceNumber (at .space)) (at .handle) (at .address .0) ⌝ }
+        (now (cells .entry)) (spaceNumber (at .space)) (at .handle) (at .address) ⌝ }
 {
     let width = at.width;
     let target = cell_target(header, records, windows, offsets, cells.len(), at);
@@ -60,13 +60,13 @@ pub fn write_data(
     windows: &Windows,
     offsets: &CellOffsets,
     cells: &mut [u8],
-    at: DataAddress,
+    at: NamedAddress,
     value: u32,
 ) -> Status
     ensures { λ r. ⌜ dataWritten r (now (cells .exit))
         ≡ writeData (bytes (at .width))
         (now (header .entry)) (now (records .entry)) (now (windows .entry)) (now (offsets .entry))
-        (now (cells .entry)) (spaceNumber (at .space)) (at .handle) (at .address .0) value ⌝ }
+        (now (cells .entry)) (spaceNumber (at .space)) (at .handle) (at .address) value ⌝ }
 {
     let width = at.width;
     let target = cell_target(header, records, windows, offsets, cells.len(), at);

@@ -6,8 +6,10 @@ use Rattle.board.specs.Handles.{placeOfHandle}
 use Rattle.board.proofs.Handles.{place-named}
 use Rattle.data_window.specs.declared.find.Finding.{Finding}
 use Rattle.data_window.specs.declared.find.Finding.the-variants.{Found, Refused}
-use Rattle.data_window.specs.Find.{findIn}
+use Rattle.call_edition.specs.declared.edition.InEdition.{InEdition}
+use Rattle.data_window.specs.Find.{findNamed}
 use Rattle.data_window.proofs.Meaning.{found-means}
+use Rattle.data_window.proofs.OnBus.{found-named}
 use Rattle.data_cells.specs.declared.target.CellTarget.{CellTarget}
 use Rattle.data_cells.specs.Cells.{cellTargetOf, cellTargetIn, cellTarget}
 
@@ -19,13 +21,13 @@ found-only records offsets room w p q (Found base distance remaining) h = rw (h 
 found-only records offsets room w p q (Refused r) h = refl
 
 -- so the target for what is found is the access's: for a number that is no handle nothing is found
-pub target-named : (header records windows offsets : List ℕ) (w room space handle address function : ℕ) (finding : Finding) (target : CellTarget)
-    → finding ≡ findIn w header records windows offsets room space handle address
+pub target-named : (header records windows offsets : List ℕ) (w room space handle : ℕ) (address : InEdition) (function : ℕ) (finding : Finding) (target : CellTarget)
+    → finding ≡ findNamed w header records windows offsets room space handle address
     → function ≡ placeOfHandle handle
     → target ≡ cellTargetIn records offsets room w function finding
     → target ≡ cellTarget w header records windows offsets room space handle address
 target-named header records windows offsets w room space handle address function finding target f h p =
     p
     ∙ found-only records offsets room w function (handle - 1) finding
-    (λ base distance remaining e. h ∙ place-named header handle (found-means _ _ _ _ _ _ _ _ base distance remaining (sym f ∙ e) .0 .0))
+    (λ base distance remaining e. h ∙ place-named header handle (found-means _ _ _ _ _ _ _ _ base distance remaining (found-named address _ base distance remaining (sym f ∙ e) .1) .0 .0))
     ∙ rw f

@@ -8,12 +8,13 @@ use lib.ListN.{getD}
 use lib.Seq.{sets}
 use Rattle.board.specs.Layout.{bases, byteOrder}
 use Rattle.numbers.specs.Numbers.{byteAt, big, bigBytes}
+use Rattle.call_edition.specs.declared.edition.InEdition.{InEdition}
 use Rattle.data_window.specs.declared.find.Finding.{Finding}
 use Rattle.data_window.specs.declared.find.Finding.the-variants.{Found, Refused as NoWindow}
 use Rattle.data_window.specs.declared.refusal.DataRefusal.the-variants.{PastBuffer}
 use Rattle.data_cells.specs.declared.target.CellTarget.{CellTarget}
 use Rattle.data_cells.specs.declared.target.CellTarget.the-variants.{At, Refused}
-use Rattle.data_window.specs.Find.{findIn}
+use Rattle.data_window.specs.Find.{findNamed}
 use Rattle.data_order.specs.Orders.{cellDistance, ordered}
 
 -- the first cell of an access, and the byte order; whether cells are past the buffer, which only an
@@ -36,10 +37,10 @@ cellTargetIn records offsets room w function finding =
     cellTargetOf (λ b. getD offsets (bases * function + b) 0) (byteOrder records function)
     room w finding
 
-abbrev pub cellTarget : ℕ → List ℕ → List ℕ → List ℕ → List ℕ → ℕ → ℕ → ℕ → ℕ → CellTarget
+abbrev pub cellTarget : ℕ → List ℕ → List ℕ → List ℕ → List ℕ → ℕ → ℕ → ℕ → InEdition → CellTarget
 cellTarget w header records windows offsets room space handle address =
     cellTargetIn records offsets room w (handle - 1)
-    (findIn w header records windows offsets room space handle address)
+    (findNamed w header records windows offsets room space handle address)
 
 -- cells are read high byte first
 abbrev pub cellsValue : ℕ → ℕ → ℕ → List ℕ → ℕ

@@ -8,9 +8,9 @@ use board::layout::Records;
 use board::layout::Windows;
 use board::layout::byte_order;
 use data_order::order::cell_distance;
-use data_window::find::DataAddress;
 use data_window::find::Finding;
-use data_window::find::find_window;
+use data_window::named::NamedAddress;
+use data_window::named::find_named;
 use data_window::refusal::DataRefusal;
 use numbers::number::Width;
 use numbers::number::bytes_by_shift;
@@ -87,14 +87,14 @@ pub fn cell_target(
     windows: &Windows,
     offsets: &CellOffsets,
     room: usize,
-    at: DataAddress,
+    at: NamedAddress,
 ) -> CellTarget
     ensures { λ r. ⌜ r ≡ cellTarget (bytes (at .width))
         (now (header .entry)) (now (records .entry)) (now (windows .entry)) (now (offsets .entry))
-        room (spaceNumber (at .space)) (at .handle) (at .address .0) ⌝ }
+        room (spaceNumber (at .space)) (at .handle) (at .address) ⌝ }
 {
     let width = at.width;
-    let finding = find_window(header, records, windows, offsets, room, at);
+    let finding = find_named(header, records, windows, offsets, room, at);
     cell_target_of(
         records,
         offsets,

@@ -11,7 +11,7 @@ use Rattle.numbers.proofs.Tests.{both-true}
 use Rattle.window.specs.Window.{Window, end, In}
 use Rattle.data_window.specs.declared.find.Finding.{Finding}
 use Rattle.data_window.specs.declared.find.Finding.the-variants.{Found, Refused}
-use Rattle.data_window.specs.declared.refusal.DataRefusal.the-variants.{BadHandle, ShortCells, NotAligned, Nothing, Contested, WidthMissing, PastBuffer}
+use Rattle.data_window.specs.declared.refusal.DataRefusal.the-variants.{UnknownEdition, BadHandle, ShortCells, NotAligned, Nothing, Contested, WidthMissing, PastBuffer}
 use Rattle.data_window.specs.Find.{holds, checkedWindow, inList, find}
 use Rattle.data_window.specs.Meaning.{HeldBy, NoneHolds, FirstHolder, Asked, Reached, Given, FindMeans}
 use Rattle.data_window.proofs.Searches.{held}
@@ -121,6 +121,7 @@ module _ (good short : Bool) (offered : ℕ → Bool) (l : List Window) (space w
 
   given-found : (f : Finding) → Met f → find good short offered l space w handle address ≡ f
   unfolding find
+  given-found (Refused UnknownEdition) m = absurd m
   given-found (Refused BadHandle) g = rw g
   given-found (Refused ShortCells) m = rw (m .0, m .1)
   given-found (Refused NotAligned) m = rw (m .0, m .1, ne-eqb (address % w) 0 (m .2))

@@ -1,11 +1,12 @@
 -- The rows of the search for a window, worked out.
 use mathlib.Core.Path.{refl}
+use Rattle.numbers.specs.Numbers.{big}
 use Rattle.window.specs.Kept.{pack, unpacked}
 use Rattle.data_window.specs.Find.{inList, find}
 use Rattle.data_window.specs.Rows.{DataWindowRows}
 
 pub data-window-rows : DataWindowRows
-unfolding inList find pack unpacked
+unfolding inList find pack unpacked big
 data-window-rows =
     record {
       bit0 = refl;
@@ -18,6 +19,7 @@ data-window-rows =
       lastAddresses = refl;
       sixBases = refl;
       numbers = refl;
+      editionNumber = refl;
       handleAlone = refl;
       cellsAlone = refl;
       othersAlone = refl;
@@ -29,4 +31,14 @@ data-window-rows =
       handles = refl;
       rooms = refl;
       ownWidths = refl;
+      editionAndHandle = refl;
+      editionAndCells = refl;
+      editionAndAlignment = refl;
+      editionAndWindow = refl;
+      editionAndMark = refl;
+      editionAndWidth = refl;
+      editionAlone = refl;
+      draftFirst = refl;
+      draftSecond = refl;
+      laterFirst = refl;
     }

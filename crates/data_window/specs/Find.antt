@@ -8,20 +8,24 @@ use mathlib.Core.List.{List, [], _∷_}
 use lib.Dec.{eqb, leb, ltb}
 use lib.ListN.{getD}
 use Rattle.board.specs.Handles.{isHandle}
-use Rattle.board.specs.Layout.{bases, windowsMax, widths}
+use Rattle.board.specs.Layout.{bases, windowsMax, widths, offset}
 use Rattle.board.specs.Statuses.{funcNotSupported, bufferTooSmall, generalError, badHandle}
 use Rattle.board.specs.declared.status.Status.{Status}
 use Rattle.numbers.specs.Numbers.{isMultiple}
 use Rattle.numbers.specs.declared.number.Width.{Width}
 use Rattle.board.specs.declared.address.BusAddress.{BusAddress}
 use Rattle.board.specs.declared.space.Space.{Space}
+use Rattle.call_edition.specs.Edition.{isKnown, busOf}
+use Rattle.call_edition.specs.declared.edition.InEdition.{InEdition}
 use Rattle.data_window.specs.declared.find.DataAddress.{DataAddress}
+use Rattle.data_window.specs.declared.named.NamedAddress.{NamedAddress}
 use Rattle.window.specs.Kept.{unpacked}
 use Rattle.window.specs.Window.{Window, end}
 use Rattle.data_window.specs.declared.find.Finding.{Finding}
 use Rattle.data_window.specs.declared.find.Finding.the-variants.{Found, Refused}
 use Rattle.data_window.specs.declared.refusal.DataRefusal.{DataRefusal}
 use Rattle.data_window.specs.declared.refusal.DataRefusal.the-variants.{
+  UnknownEdition,
   BadHandle,
   ShortCells,
   NotAligned,
@@ -76,6 +80,7 @@ find good short offered l space w handle address =
 -- the number of each refusal; a cell past the buffer, which only an altered board has, is found
 -- after all that is tested here
 abbrev pub statusOf : DataRefusal → Status
+statusOf UnknownEdition = funcNotSupported
 statusOf BadHandle = badHandle
 statusOf ShortCells = bufferTooSmall
 statusOf NotAligned = generalError
@@ -90,3 +95,19 @@ findIn w header records windows offsets room space handle address =
     find (isHandle header handle) (ltb room (getD offsets windowsMax 0))
     (λ b. offers w (widths records (handle - 1) b))
     (unpacked windows) space w handle address
+
+-- what a caller names, in a call edition: request E1
+abbrev pub namedAddress : Space → Width → ℕ → InEdition → NamedAddress
+namedAddress space width handle address =
+    record { space = space; width = width; handle = handle; address = address }
+
+-- the edition is tested before all else
+abbrev pub ifKnown : InEdition → Finding → Finding
+ifKnown named finding = cond (isKnown named) finding (Refused UnknownEdition)
+
+-- of the lent parts, for the bus address that the caller's number is
+abbrev pub findNamed : ℕ → List ℕ → List ℕ → List ℕ → List ℕ → ℕ → ℕ → ℕ → InEdition → Finding
+findNamed w header records windows offsets room space handle address =
+    ifKnown address
+    (findIn w header records windows offsets room space handle
+    (busOf (offset records (handle - 1)) address .0))

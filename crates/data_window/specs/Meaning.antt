@@ -11,6 +11,7 @@ use Rattle.window.specs.Window.{Window, end, In}
 use Rattle.data_window.specs.declared.find.Finding.{Finding}
 use Rattle.data_window.specs.declared.find.Finding.the-variants.{Found, Refused}
 use Rattle.data_window.specs.declared.refusal.DataRefusal.the-variants.{
+  UnknownEdition,
   BadHandle,
   ShortCells,
   NotAligned,
@@ -57,8 +58,10 @@ module _ (good short : Bool) (offered : ℕ → Bool) (l : List Window) (space w
 
     -- the condition of each finding: its own check fails and none before it does; or none fails,
     -- and the window is told with the distance from its start and the bytes that remain to its end.
-    -- A cell past the buffer is found later, where the cells are worked out
+    -- An edition is tested before, and a cell past the buffer is found later, where the cells are
+    -- worked out
     abbrev pub Given : Finding → Type 0
+    Given (Refused UnknownEdition) = ⊥
     Given (Refused BadHandle) = good ≡ false
     Given (Refused ShortCells) = (good ≡ true) × (short ≡ true)
     Given (Refused NotAligned) = (good ≡ true) × (short ≡ false) × (address % w ≡ 0 → ⊥)

@@ -1,6 +1,7 @@
 -- Rows with literal numbers of document 01, "Numbers handed back", "Windows" and "Board image": the
 -- widths that a window offers, which window holds an address, each refusal of a data access by
--- itself and each two of them at once.
+-- itself and each two of them at once; and of request E1: what is found for an address in each
+-- call edition.
 use Prim.Native.Nat.{ℕ}
 use mathlib.Core.Bool.{Bool, true, false}
 use mathlib.Core.List.{List, [], _∷_, _++_, map}
@@ -10,9 +11,12 @@ use Rattle.board.specs.Statuses.{minus}
 use Rattle.window.specs.Kept.{pack}
 use Rattle.window.specs.Window.{Window}
 use Rattle.window.specs.Rows.{mem, io, clear, contested}
+use Rattle.call_edition.specs.Edition.{inEdition, inDraft, inLater}
+use Rattle.call_edition.specs.declared.edition.InEdition.{InEdition}
 use Rattle.data_window.specs.declared.find.Finding.{Finding}
 use Rattle.data_window.specs.declared.find.Finding.the-variants.{Found, Refused}
 use Rattle.data_window.specs.declared.refusal.DataRefusal.the-variants.{
+  UnknownEdition,
   BadHandle,
   ShortCells,
   NotAligned,
@@ -21,7 +25,7 @@ use Rattle.data_window.specs.declared.refusal.DataRefusal.the-variants.{
   WidthMissing,
   PastBuffer,
 }
-use Rattle.data_window.specs.Find.{offers, find, statusOf, findIn}
+use Rattle.data_window.specs.Find.{offers, find, statusOf, findIn, findNamed}
 
 -- one width, two, three, none, and a bit that plays no part, alone and beside bit 2
 abbrev someWidths : List ℕ
@@ -58,14 +62,35 @@ refusedAlone good short =
     ∷ []
 
 -- the same windows as the lent parts have them: 2 functions, 2,832 cells; base register 0 of the
--- first function offers all widths, of the second words and longwords
-abbrev recordOf : ℕ → List ℕ
-recordOf widths0 = replicate 512 0 ++ (10 ∷ 0 ∷ widths0 ∷ 0 ∷ replicate 28 0)
+-- first function offers all widths, of the second words and longwords; their offsets are
+-- F0000000h and 400h
+abbrev recordOf : ℕ → List ℕ → List ℕ
+recordOf widths0 offset =
+    replicate 512 0 ++ (10 ∷ 0 ∷ widths0 ∷ 0 ∷ replicate 20 0) ++ offset ++ replicate 4 0
+
+abbrev twoRecords : List ℕ
+twoRecords = recordOf 7 (0xF0 ∷ 0 ∷ 0 ∷ 0 ∷ []) ++ recordOf 6 (0 ∷ 0 ∷ 0x04 ∷ 0 ∷ [])
 
 abbrev foundIn : ℕ → ℕ → ℕ → ℕ → Finding
 foundIn w room handle address =
-    findIn w (2 ∷ 0 ∷ 0 ∷ 0 ∷ []) (recordOf 7 ++ recordOf 6) (map pack list)
-    (replicate 96 0 ++ 2832 ∷ []) room 0 handle address
+    findIn w (2 ∷ 0 ∷ 0 ∷ 0 ∷ []) twoRecords (map pack list) (replicate 96 0 ++ 2832 ∷ [])
+    room 0 handle address
+
+-- longwords, as a caller names them
+abbrev foundNamed : ℕ → ℕ → InEdition → Finding
+foundNamed room handle address =
+    findNamed 4 (2 ∷ 0 ∷ 0 ∷ 0 ∷ []) twoRecords (map pack list) (replicate 96 0 ++ 2832 ∷ [])
+    room 0 handle address
+
+-- one in the editions 0, 1, 2, 3 and 102h
+abbrev inEditions : ℕ → ℕ → ℕ → List Finding
+inEditions room handle number =
+    map (λ e. foundNamed room handle (inEdition number e)) (0 ∷ 1 ∷ 2 ∷ 3 ∷ 0x102 ∷ [])
+
+-- where 1 and 2 are told two findings, and any other edition is none
+abbrev told : Finding → Finding → List Finding
+told draft later =
+    Refused UnknownEdition ∷ draft ∷ later ∷ Refused UnknownEdition ∷ Refused UnknownEdition ∷ []
 
 pub record DataWindowRows : Type 0 where
   -- bit 0: 8, bit 1: 16, bit 2: 32 bits
@@ -99,6 +124,7 @@ pub record DataWindowRows : Type 0 where
       map statusOf
       (BadHandle ∷ ShortCells ∷ NotAligned ∷ Nothing ∷ Contested ∷ WidthMissing ∷ PastBuffer ∷ [])
       ≡ minus 9 ∷ minus 7 ∷ minus 8 ∷ minus 8 ∷ minus 8 ∷ minus 2 ∷ minus 7 ∷ []
+  pub editionNumber : statusOf UnknownEdition ≡ minus 2
   -- each check fails by itself
   pub handleAlone : checked false false 0 4 1 0x80000000 ≡ Refused BadHandle
   pub cellsAlone : checked true true 0 4 1 0x80000000 ≡ Refused ShortCells
@@ -122,3 +148,30 @@ pub record DataWindowRows : Type 0 where
       ≡ Refused ShortCells ∷ Found 0 0 0x400 ∷ Found 0 0 0x400 ∷ []
   pub ownWidths : map (λ w. foundIn w 2832 2 0x80000400) (1 ∷ 2 ∷ 4 ∷ [])
       ≡ Refused WidthMissing ∷ Found 0 0 0x400 ∷ Found 0 0 0x400 ∷ []
+  -- an unknown edition before the handle, the cells, the alignment, the window, the mark and the
+  -- width, and alone
+  pub editionAndHandle : map (λ handle. inEditions 2832 handle 0x80000000) (0 ∷ 9 ∷ [])
+      ≡ replicate 2 (told (Refused BadHandle) (Refused BadHandle))
+  pub editionAndCells : inEditions 2831 1 0x80000000
+      ≡ told (Refused ShortCells) (Refused ShortCells)
+  pub editionAndAlignment : inEditions 2832 1 0x80000002
+      ≡ told (Refused NotAligned) (Refused NotAligned)
+  pub editionAndWindow : inEditions 2832 1 0x60000000 ≡ told (Refused Nothing) (Refused Nothing)
+  pub editionAndMark : inEditions 2832 1 0x90000000 ≡ told (Refused Nothing) (Refused Contested)
+  pub editionAndWidth : inEditions 2832 1 0xFFFFFF00
+      ≡ told (Refused Nothing) (Refused WidthMissing)
+  pub editionAlone : inEditions 2832 1 0x80000000 ≡ told (Refused Contested) (Found 0 0 0x400)
+  -- the CPU address less the function's own offset: F0000000h of handle 1, at both ends of its
+  -- window
+  pub draftFirst : map (λ n. foundNamed 2832 1 (inDraft n))
+      (0x6FFFFFFC ∷ 0x70000000 ∷ 0x700003FC ∷ 0x70000400 ∷ 0x800003FC ∷ [])
+      ≡ Refused Nothing ∷ Found 0 0 0x400 ∷ Found 0 0x3FC 4 ∷ Refused Nothing ∷ Refused Nothing
+      ∷ []
+  -- 400h of handle 2
+  pub draftSecond : map (λ n. foundNamed 2832 2 (inDraft n))
+      (0x800007FC ∷ 0x80000800 ∷ 0x80000BFC ∷ 0x80000C00 ∷ [])
+      ≡ Refused Nothing ∷ Found 0 0 0x400 ∷ Found 0 0x3FC 4 ∷ Refused Nothing ∷ []
+  -- the bus address itself
+  pub laterFirst : map (λ n. foundNamed 2832 1 (inLater n))
+      (0x700003FC ∷ 0x800003FC ∷ 0x80000400 ∷ [])
+      ≡ Refused Nothing ∷ Found 0 0x3FC 4 ∷ Refused Nothing ∷ []

@@ -7,6 +7,8 @@ ghost use Rattle.data_window.specs.Find.{statusOf};
 // The check of a data access that failed, in the order of the checks. A cell past the buffer, which
 // only an altered board has, is found last, when the cells are worked out.
 pub enum DataRefusal {
+    // -2: the call's edition is none.
+    UnknownEdition,
     // -9: no function has the handle.
     BadHandle,
     // -7: fewer cells are lent than the board's total.
@@ -28,6 +30,7 @@ pub fn status_of(refusal: DataRefusal) -> Status
     ensures { λ r. ⌜ r ≡ statusOf refusal ⌝ }
 {
     match refusal {
+        DataRefusal::UnknownEdition => Status::FUNC_NOT_SUPPORTED,
         DataRefusal::BadHandle => Status::BAD_HANDLE,
         DataRefusal::ShortCells => Status::BUFFER_TOO_SMALL,
         DataRefusal::NotAligned => Status::GENERAL_ERROR,

@@ -4,7 +4,7 @@ use mathlib.Core.Path.{_≡_, sym}
 use mathlib.Core.List.{List}
 use lib.IntN.{pos}
 use Rattle.board.specs.Parts.{Parts, withRegisters, withCells, withHooks, withUsed}
-use Rattle.board.specs.declared.address.BusAddress.{BusAddress}
+use Rattle.call_edition.specs.declared.edition.InEdition.{InEdition}
 use Rattle.numbers.specs.declared.number.Width.{Width}
 use Rattle.board.specs.declared.status.Status.{Status}
 use Rattle.board.specs.declared.space.Space.{Space}
@@ -54,7 +54,7 @@ pub arm-config : (p : Parts) (own registers windows : List ℕ) (c : Call) (w : 
 unfolding step
 arm-config p own registers windows c w h register access r e k = rw (e, ← k)
 
-pub arm-data : (p : Parts) (own cells : List ℕ) (c : Call) (space : Space) (w : Width) (h : ℕ) (address : BusAddress) (access : Access) (r : Answer)
+pub arm-data : (p : Parts) (own cells : List ℕ) (c : Call) (space : Space) (w : Width) (h : ℕ) (address : InEdition) (access : Access) (r : Answer)
     → c ≡ Data space w h address access
     → dataOutcome r cells ≡ dataAccess (p .header) (p .records) (p .windows) (p .cellOffsets) (p .cells) space w h address access
     → outcome r (withCells cells p) own ≡ step p c own

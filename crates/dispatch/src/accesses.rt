@@ -1,5 +1,4 @@
 // Accesses to registers and to cells: a read, a fast read or a write, each by its own function.
-use board::address::BusAddress;
 use board::layout::CellOffsets;
 use board::layout::Header;
 use board::layout::Records;
@@ -11,13 +10,14 @@ use call::answer::Answer;
 use call::answer::of_fast_read;
 use call::answer::of_read;
 use call::answer::of_status;
+use call_edition::edition::InEdition;
 use config_read::read::fast_read_config;
 use config_read::read::read_config;
 use config_write::write::write_config;
 use data_access::data::fast_read_data;
 use data_access::data::read_data;
 use data_access::data::write_data;
-use data_window::find::data_address;
+use data_window::named::named_address;
 use numbers::number::Width;
 ghost use mathlib.Core.Path.{_≡_};
 ghost use Rattle.reference.specs.State.{configOutcome, configAccess, dataOutcome, dataAccess};
@@ -68,7 +68,7 @@ pub(crate) fn data_access(
     space: Space,
     width: Width,
     handle: u32,
-    address: BusAddress,
+    address: InEdition,
     access: Access,
 ) -> Answer
     ensures { λ r. ⌜ dataOutcome r (now (cells .exit))
@@ -76,7 +76,7 @@ pub(crate) fn data_access(
         (now (header .entry)) (now (records .entry)) (now (windows .entry)) (now (offsets .entry))
         (now (cells .entry)) space width handle address access ⌝ }
 {
-    let at = data_address(space, width, handle, address);
+    let at = named_address(space, width, handle, address);
     match access {
         Access::Read => { of_read(read_data(header, records, windows, offsets, cells, at)) },
         Access::FastRead => {

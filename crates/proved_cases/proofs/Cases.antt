@@ -9,7 +9,7 @@ use Rattle.numbers.specs.Tables.{tableFrom}
 use Rattle.window_list.specs.Windows.{windowAt, gather, openWindows, put, putAll, listOf}
 use Rattle.window_listing.specs.Listing.{listedNumber, listedValues}
 use Rattle.config_read.specs.Target.{target}
-use Rattle.search.specs.Search.{matching, searchNumber}
+use Rattle.search.specs.Search.{matching, searchNumber, soughtNumber}
 use Rattle.data_window.specs.Find.{inList, find}
 use Rattle.resource_descriptor.specs.Descriptor.{descriptorBytes, descriptorsBytes}
 use Rattle.window_start.specs.Start.{startIn}
@@ -30,7 +30,7 @@ use Rattle.proved_cases.specs.B1.{recordBytes, b1}
 use Rattle.proved_cases.specs.Cases.{Case, case, buffer, cells, caseTable, cells2064, programMachine, referenceMachine, EveryCase, ProvedCases, B1Short}
 
 reference-cases : EveryCase referenceMachine caseTable
-unfolding recordBytes b1 little big tableFrom windowAt gather openWindows put putAll listOf listedNumber listedValues target matching searchNumber inList find cellTargetAt reversed descriptorBytes descriptorsBytes windowsFrom startIn described resource hookListedNumber hookListedValues isAmong entryOk recordOk cellsBefore sum firstBad firstRefusal split imageVerdict referenceStep referenceQueried referenceResponses
+unfolding recordBytes b1 little big tableFrom windowAt gather openWindows put putAll listOf listedNumber listedValues target matching searchNumber soughtNumber inList find cellTargetAt reversed descriptorBytes descriptorsBytes windowsFrom startIn described resource hookListedNumber hookListedValues isAmong entryOk recordOk cellsBefore sum firstBad firstRefusal split imageVerdict referenceStep referenceQueried referenceResponses
 reference-cases =
     (refl, (refl, (refl, (refl, (refl, (refl, (refl, (refl, (refl, (refl, (refl, (refl, (refl, (refl, (refl, tt)))))))))))))))
 

@@ -6,7 +6,7 @@ use Rattle.numbers.specs.Tables.{tableFrom}
 use Rattle.window_list.specs.Windows.{windowAt, gather, openWindows, put, putAll, listOf}
 use Rattle.window_listing.specs.Listing.{listedNumber, listedValues}
 use Rattle.config_read.specs.Target.{target}
-use Rattle.search.specs.Search.{matching, searchNumber}
+use Rattle.search.specs.Search.{matching, searchNumber, soughtNumber}
 use Rattle.data_window.specs.Find.{inList, find}
 use Rattle.resource_descriptor.specs.Descriptor.{descriptorBytes, descriptorsBytes}
 use Rattle.window_start.specs.Start.{startIn}
@@ -26,11 +26,11 @@ use Rattle.proved_cases.specs.SmallBoard.{smallImage}
 use Rattle.proved_cases.specs.Rows.{Run, EveryRow, runTable, programRuns, referenceRuns}
 
 reference-runs : EveryRow referenceRuns runTable
-unfolding recordBytes smallImage little big tableFrom windowAt gather openWindows put putAll listOf listedNumber listedValues target matching searchNumber inList find cellTargetAt reversed descriptorBytes descriptorsBytes windowsFrom startIn described resource hookListedNumber hookListedValues isAmong without entryOk recordOk cellsBefore sum firstBad firstRefusal joined split imageVerdict referenceStep referenceQueried referenceResponses
+unfolding recordBytes smallImage little big tableFrom windowAt gather openWindows put putAll listOf listedNumber listedValues target matching searchNumber soughtNumber inList find cellTargetAt reversed descriptorBytes descriptorsBytes windowsFrom startIn described resource hookListedNumber hookListedValues isAmong without entryOk recordOk cellsBefore sum firstBad firstRefusal joined split imageVerdict referenceStep referenceQueried referenceResponses
 reference-runs = (refl, (refl, (refl, (refl, (refl, (refl, (refl, (refl, tt))))))))
 
 -- rows of the reference machine are rows of the program
-as-program : (rs : List Run) → EveryRow referenceRuns rs → EveryRow programRuns rs
+pub as-program : (rs : List Run) → EveryRow referenceRuns rs → EveryRow programRuns rs
 as-program [] e = tt
 as-program (r ∷ rs) e = (refinement (r .cells) _ .answered ∙ e .0, as-program rs (e .1))
 

@@ -35,11 +35,15 @@ ports =
     at 0x114 0xF0 ∷ at 0x115 0xFF ∷ at 0x116 0xFF ∷ at 0x117 0xFF
     ∷ at 516 4 ∷ at 517 2 ∷ at 518 1 ∷ []
 
--- memory at 80000000h; memory at 80000400h and I/O at 00000100h;
--- the trailer: 1,100 back, 2 records, edition 1, sum 3,720
-unfoldable pub b1 : List ℕ
-b1 =
-    recordBytes (at 0x13 0x80 ∷ both ++ memory)
+-- memory at 80000000h, and bytes that differ from B1's; memory at 80000400h and I/O at 00000100h;
+-- the trailer: 1,100 back, 2 records, edition 1, and the sum's two low bytes
+abbrev pub b1With : List PlacedByte → ℕ → ℕ → List ℕ
+b1With changes high low =
+    recordBytes (changes ++ (at 0x13 0x80 ∷ both ++ memory))
     ++ recordBytes
     (at 0x11 0x04 ∷ at 0x13 0x80 ∷ at 0x14 0x01 ∷ at 0x15 0x01 ∷ both ++ (memory ++ ports))
-    ++ (0 ∷ 0 ∷ 4 ∷ 0x4C ∷ 0 ∷ 2 ∷ 0 ∷ 1 ∷ 0 ∷ 0 ∷ 0x0E ∷ 0x88 ∷ [])
+    ++ (0 ∷ 0 ∷ 4 ∷ 0x4C ∷ 0 ∷ 2 ∷ 0 ∷ 1 ∷ 0 ∷ 0 ∷ high ∷ low ∷ [])
+
+-- B1's, of sum 3,720
+unfoldable pub b1 : List ℕ
+b1 = b1With [] 0x0E 0x88

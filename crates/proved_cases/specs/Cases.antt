@@ -9,6 +9,7 @@ use lib.ListN.{length, replicate}
 use Rattle.numbers.specs.Numbers.{bigBytes}
 use Rattle.board.specs.Statuses.{successful, deviceNotFound, generalError}
 use Rattle.numbers.specs.declared.number.Width.the-variants.{Byte, Long}
+use Rattle.call_edition.specs.Edition.{inLater}
 use Rattle.data_cells.specs.Cells.{cellsValue}
 use Rattle.data_order.specs.Orders.{cellDistance}
 use Rattle.board.specs.declared.space.Space.the-variants.{Memory}
@@ -96,19 +97,19 @@ abbrev pub b1List : Case
 b1List = case listCalls (listAnswers 0x80000400 0)
 
 abbrev pub p1 : Case
-p1 = case (Ask (FindPciDevice 0x00010F0F 1) ∷ []) (foundHandle 2 ∷ [])
+p1 = case (Ask (FindPciDevice (inLater 0x00010F0F) 1) ∷ []) (foundHandle 2 ∷ [])
 
 abbrev pub p2 : Case
-p2 = case (Ask (FindPciDevice 0x00010F0F 2) ∷ []) (ofStatus deviceNotFound ∷ [])
+p2 = case (Ask (FindPciDevice (inLater 0x00010F0F) 2) ∷ []) (ofStatus deviceNotFound ∷ [])
 
 abbrev pub p3 : Case
-p3 = case (Ask (FindPciDevice 0x0000FFFF 0) ∷ []) (foundHandle 1 ∷ [])
+p3 = case (Ask (FindPciDevice (inLater 0x0000FFFF) 0) ∷ []) (foundHandle 1 ∷ [])
 
 abbrev pub p4 : Case
-p4 = case (Ask (FindPciClasscode 0x01118055 0) ∷ []) (foundHandle 1 ∷ [])
+p4 = case (Ask (FindPciClasscode (inLater 0x01118055) 0) ∷ []) (foundHandle 1 ∷ [])
 
 abbrev pub p5 : Case
-p5 = case (Ask (FindPciClasscode 0x00118055 0) ∷ []) (ofStatus deviceNotFound ∷ [])
+p5 = case (Ask (FindPciClasscode (inLater 0x00118055) 0) ∷ []) (ofStatus deviceNotFound ∷ [])
 
 abbrev pub p6 : Case
 p6 =
@@ -128,12 +129,12 @@ p8 =
 -- one longword past the end of handle 1's window, and its last
 abbrev pub p9 : Case
 p9 =
-    case (Data Memory Long 1 (record { 0 = 0x80000400 }) (Write 1) ∷ [])
+    case (Data Memory Long 1 (inLater 0x80000400) (Write 1) ∷ [])
     (ofStatus generalError ∷ [])
 
 abbrev pub p10 : Case
 p10 =
-    case (Data Memory Long 1 (record { 0 = 0x800003FC }) (Write 1) ∷ [])
+    case (Data Memory Long 1 (inLater 0x800003FC) (Write 1) ∷ [])
     (ofStatus successful ∷ [])
 
 abbrev pub p11 : Case

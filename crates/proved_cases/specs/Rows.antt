@@ -11,6 +11,7 @@ use Rattle.board.specs.Addresses.{bus, cpu}
 use Rattle.board.specs.declared.space.Space.the-variants.{Memory, Io}
 use Rattle.numbers.specs.declared.number.Width.{Width}
 use Rattle.numbers.specs.declared.number.Width.the-variants.{Byte, Word, Long}
+use Rattle.call_edition.specs.Edition.{inLater}
 use Rattle.call.specs.declared.answer.Answer.{Answer}
 use Rattle.call.specs.declared.call.Call.{Call}
 use Rattle.call.specs.declared.call.Access.{Access}
@@ -129,14 +130,14 @@ ask q values = gives (Ask q) values
 abbrev pub beforeLoad : Run
 beforeLoad =
     run (dirty 21)
-    (givesMinus (Ask (FindPciDevice 0x0000FFFF 0)) 4
+    (givesMinus (Ask (FindPciDevice (inLater 0x0000FFFF) 0)) 4
     ∷ givesMinus (Ask (ListWindow 0)) 4
     ∷ givesMinus (Ask (ListChain 15 0)) 4
     ∷ givesMinus (Ask (ListChain 16 0)) 8
     ∷ givesMinus (Config Word 1 1 Read) 9
     ∷ faults (Config Word 1 0 FastRead) 0xFFFF
     ∷ givesMinus (Config Byte 0 0 (Write 1)) 9
-    ∷ givesMinus (Data Memory Long 1 (bus 1) Read) 9
+    ∷ givesMinus (Data Memory Long 1 (inLater 1) Read) 9
     ∷ givesMinus (GetResource 1) 9
     ∷ givesMinus (HookInterrupt 1 1 1) 9
     ∷ givesMinus (UnhookInterrupt 1) 9
@@ -175,7 +176,7 @@ refusedLoads =
     ∷ loadGives (imageWith vendor 0x11 0x7B) 6 0
     ∷ loadGives (imageWith large 0x09 0xFF) 7 0
     ∷ loadGives smallImage 8 0
-    ∷ givesMinus (Ask (FindPciDevice 0x0000FFFF 0)) 4
+    ∷ givesMinus (Ask (FindPciDevice (inLater 0x0000FFFF) 0)) 4
     ∷ [])
 
 -- searches: both sides of the index; vendor FFFFh with any device ID; device FFFFh; the class bits
@@ -183,21 +184,21 @@ refusedLoads =
 abbrev pub searchCalls : Run
 searchCalls =
     onSmall
-    (finds (FindPciDevice 0x56781234 0) 1
-    ∷ givesMinus (Ask (FindPciDevice 0x56781234 1)) 4
-    ∷ givesMinus (Ask (FindPciDevice 0x56781234 0xFFFFFFFF)) 4
-    ∷ finds (FindPciDevice 0x1234FFFF 0) 1
-    ∷ givesMinus (Ask (FindPciDevice 0x1234FFFF 1)) 4
-    ∷ givesMinus (Ask (FindPciDevice 0xFFFF1234 0)) 4
-    ∷ givesMinus (Ask (FindPciDevice 0x12345678 0)) 4
-    ∷ finds (FindPciClasscode 0x00118001 0) 1
-    ∷ finds (FindPciClasscode 0xF8118001 0) 1
-    ∷ finds (FindPciClasscode 0x01118002 0) 1
-    ∷ givesMinus (Ask (FindPciClasscode 0xFE118002 0)) 4
-    ∷ finds (FindPciClasscode 0x02118101 0) 1
-    ∷ givesMinus (Ask (FindPciClasscode 0xFD118101 0)) 4
-    ∷ finds (FindPciClasscode 0x04128001 0) 1
-    ∷ givesMinus (Ask (FindPciClasscode 0xFB128001 0)) 4
+    (finds (FindPciDevice (inLater 0x56781234) 0) 1
+    ∷ givesMinus (Ask (FindPciDevice (inLater 0x56781234) 1)) 4
+    ∷ givesMinus (Ask (FindPciDevice (inLater 0x56781234) 0xFFFFFFFF)) 4
+    ∷ finds (FindPciDevice (inLater 0x1234FFFF) 0) 1
+    ∷ givesMinus (Ask (FindPciDevice (inLater 0x1234FFFF) 1)) 4
+    ∷ givesMinus (Ask (FindPciDevice (inLater 0xFFFF1234) 0)) 4
+    ∷ givesMinus (Ask (FindPciDevice (inLater 0x12345678) 0)) 4
+    ∷ finds (FindPciClasscode (inLater 0x00118001) 0) 1
+    ∷ finds (FindPciClasscode (inLater 0xF8118001) 0) 1
+    ∷ finds (FindPciClasscode (inLater 0x01118002) 0) 1
+    ∷ givesMinus (Ask (FindPciClasscode (inLater 0xFE118002) 0)) 4
+    ∷ finds (FindPciClasscode (inLater 0x02118101) 0) 1
+    ∷ givesMinus (Ask (FindPciClasscode (inLater 0xFD118101) 0)) 4
+    ∷ finds (FindPciClasscode (inLater 0x04128001) 0) 1
+    ∷ givesMinus (Ask (FindPciClasscode (inLater 0xFB128001) 0)) 4
     ∷ [])
 
 -- the two windows as they are listed
@@ -244,10 +245,10 @@ listingCalls =
 
 -- a data call through handle 1
 abbrev pub memoryCall : ℕ → Width → Access → Call
-memoryCall address width access = Data Memory width 1 (bus address) access
+memoryCall address width access = Data Memory width 1 (inLater address) access
 
 abbrev pub ioCall : ℕ → Width → Access → Call
-ioCall address width access = Data Io width 1 (bus address) access
+ioCall address width access = Data Io width 1 (inLater address) access
 
 -- a loaded cell is 0; the last cell of a window that ends at 2^32, and address 0; each refusal, -8
 -- before -2; order 1 in words and bytes, order 15 in longwords; the low byte of a value; fast reads
@@ -262,7 +263,7 @@ dataCalls =
     ∷ givesMinus (memoryCall 0xFFFFFFF2 Long Read) 8
     ∷ givesMinus (memoryCall 0xFFFFFFF0 Long Read) 2
     ∷ givesMinus (memoryCall 0x00000104 Long Read) 8
-    ∷ givesMinus (Data Memory Byte 2 (bus 0xFFFFFFF0) Read) 9
+    ∷ givesMinus (Data Memory Byte 2 (inLater 0xFFFFFFF0) Read) 9
     ∷ gives (memoryCall 0xFFFFFFF0 Word (Write 0xABCD)) []
     ∷ gives (memoryCall 0xFFFFFFF0 Word Read) (0xABCD ∷ [])
     ∷ gives (memoryCall 0xFFFFFFF0 Word FastRead) (0xABCD ∷ [])

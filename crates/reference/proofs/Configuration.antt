@@ -9,15 +9,17 @@ use Rattle.numbers.specs.declared.number.Width.{Width}
 use Rattle.board.specs.Handles.{isHandle}
 use Rattle.board.specs.Layout.{registersEach, registerByte}
 use Rattle.board.specs.Parts.{withRegisters}
+use Rattle.call_edition.specs.Edition.{idOf, classOf}
+use Rattle.call_edition.specs.declared.edition.InEdition.{InEdition}
 use Rattle.window_list.specs.Windows.{windowList}
 use Rattle.window_list.specs.Kept.{keptList}
 use Rattle.config_read.specs.Target.{target}
 use Rattle.config_read.specs.Read.{readOf, fastReadOf}
 use Rattle.config_write.specs.Write.{ConfigWritten, writeTo}
-use Rattle.search.specs.Search.{deviceMatches, classMatches, matching, searched, foundNumber, searchNumber}
+use Rattle.search.specs.Search.{deviceMatches, classMatches, matching}
 use Rattle.config_read.specs.declared.target.Target.{Target}
 use Rattle.config_write.proofs.Moves.{list-follows}
-use Rattle.search.proofs.Searches.{search-number, matching-same, device-same, class-same}
+use Rattle.search.proofs.Searches.{sought-number, matching-same, device-same, class-same}
 use Rattle.call.specs.declared.call.Access.the-variants.{Read, FastRead, Write}
 use Rattle.call.specs.declared.call.Call.the-variants.{Config}
 use Rattle.call.specs.declared.call.Query.the-variants.{FindPciDevice, FindPciClasscode}
@@ -40,25 +42,20 @@ left b w register value t =
     let p = partsOf b in writeTo (p .header) (p .records) (p .registers) (p .windows) w register value t
 
 module _ (b : Reference) (s : Sound b) where
-  -- a search, whatever it looks for in a function's registers
-  same-search : (m : (ℕ → ℕ) → Bool) → ((f g : ℕ → ℕ) → ((at : ℕ) → at < registersEach → f at ≡ g at) → m f ≡ m g)
-      → (index : ℕ)
-      → foundNumber (searched (matching (λ i. m (registerByte (flat (b .registers)) i)) 0 (length (b .records))) index)
-      ≡ searchNumber (matching (λ i. m (b .registers i)) 0 (length (b .records))) index
-  same-search m depends index =
-      rw (
-        matching-same (λ i. m (registerByte (flat (b .registers)) i)) (λ i. m (b .registers i)) 0 (length (b .records))
-            (λ i h. depends (registerByte (flat (b .registers)) i) (b .registers i) (λ at l. flat-byte (b .registers) i at (omega (arith, s .kept .few)) l)),
-        search-number,
-      )
+  -- the matches of a search, whatever it looks for in a function's registers
+  matching-flat : (m : (ℕ → ℕ) → Bool) → ((f g : ℕ → ℕ) → ((at : ℕ) → at < registersEach → f at ≡ g at) → m f ≡ m g)
+      → matching (λ i. m (registerByte (flat (b .registers)) i)) 0 (length (b .records)) ≡ matching (λ i. m (b .registers i)) 0 (length (b .records))
+  matching-flat m depends =
+      matching-same (λ i. m (registerByte (flat (b .registers)) i)) (λ i. m (b .registers i)) 0 (length (b .records))
+      (λ i h. depends (registerByte (flat (b .registers)) i) (b .registers i) (λ at l. flat-byte (b .registers) i at (omega (arith, s .kept .few)) l))
 
-  pub same-device : (id index : ℕ) → Answered b (FindPciDevice id index)
+  pub same-device : (id : InEdition) (index : ℕ) → Answered b (FindPciDevice id index)
   unfolding queried referenceQueried partsOf
-  same-device id index = rw (count-same b s, same-search (deviceMatches id) (device-same id) index)
+  same-device id index = rw (count-same b s, matching-flat (deviceMatches (idOf id)) (device-same (idOf id)), sought-number)
 
-  pub same-class : (class index : ℕ) → Answered b (FindPciClasscode class index)
+  pub same-class : (class : InEdition) (index : ℕ) → Answered b (FindPciClasscode class index)
   unfolding queried referenceQueried partsOf
-  same-class class index = rw (count-same b s, same-search (classMatches class) (class-same class) index)
+  same-class class index = rw (count-same b s, matching-flat (classMatches (classOf class)) (class-same (classOf class)), sought-number)
 
   target-same : (w handle register : ℕ) → target (isHandle (partsOf b .header) handle) w handle register ≡ targetOf b w handle register
   unfolding partsOf

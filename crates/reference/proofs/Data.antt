@@ -11,17 +11,19 @@ use Rattle.board.specs.Layout.{bases, windowsMax, entriesAt, entrySize, offsetA
 use Rattle.numbers.specs.Numbers.{bytes}
 use Rattle.board.specs.declared.address.BusAddress.{BusAddress}
 use Rattle.board.specs.declared.address.CpuAddress.{CpuAddress}
+use Rattle.call_edition.specs.declared.edition.InEdition.{InEdition}
 use Rattle.numbers.specs.declared.number.Width.{Width}
 use Rattle.window.specs.Window.{Window}
 use Rattle.window_list.proofs.KeptArray.{kept-of}
 use Rattle.data_cells.specs.Cells.{cellTargetOf, cellTarget}
 use Rattle.board.specs.Spaces.{spaceNumber}
-use Rattle.data_window.specs.Find.{holds, offers, inList, find, findIn}
+use Rattle.data_window.specs.Find.{holds, offers, inList, find, findIn, findNamed}
 use Rattle.data_order.specs.Orders.{cellDistance}
 use Rattle.data_window.specs.declared.find.Finding.{Finding}
 use Rattle.data_window.specs.declared.find.Finding.the-variants.{Found, Refused as NoWindow}
 use Rattle.board.specs.declared.space.Space.{Space}
 use Rattle.data_window.proofs.Searches.{held}
+use Rattle.data_window.proofs.OnBus.{found-named}
 use Rattle.cell_layout.specs.Cells.{offsetsOf}
 use Rattle.load.specs.Load.{padded}
 use Rattle.cell_layout.proofs.Ranges.{offset-at, cell-ranges}
@@ -29,7 +31,7 @@ use Rattle.call.specs.declared.call.Access.the-variants.{Read, FastRead, Write}
 use Rattle.call.specs.declared.call.Call.the-variants.{Data}
 use Rattle.call.specs.declared.call.Query.the-variants.{BusToCpu, CpuToBus}
 use Rattle.reference.specs.State.{step, queried}
-use Rattle.reference.specs.Reference.{Reference, entryField, exponentOf, joined, windowsOf, findFor, cellTargetAt, cellTargetFor, referenceStep, referenceQueried}
+use Rattle.reference.specs.Reference.{Reference, entryField, exponentOf, joined, windowsOf, findFor, findNamedFor, cellTargetAt, cellTargetFor, referenceStep, referenceQueried}
 use Rattle.reference.specs.Run.{partsOf}
 use Rattle.reference.proofs.Tests.{ifBoth, ifAt}
 use Rattle.reference.proofs.Registers.{kept-byte, kept-number}
@@ -58,15 +60,23 @@ module _ (b : Reference) (s : Sound b) where
             handle address (λ c h. rw (kept-byte (b .records) (s .kept .sized) (handle - 1) (entriesAt + entrySize * c + 2) (omega arith))) (windowsOf b),
       )
 
+  -- as a caller names it, by the same offset
+  named-same : (w space handle : ℕ) (address : InEdition)
+      → (let p = partsOf b in findNamed w (p .header) (p .records) (p .windows) (p .cellOffsets) (length (p .cells)) space handle address)
+      ≡ findNamedFor b w space handle address
+  unfolding partsOf
+  named-same w space handle address =
+      rw (kept-number (b .records) (s .kept .sized) (handle - 1) offsetAt (omega arith), find-same w space handle _)
+
   -- a window that is found has its cells in the buffer
-  target-found : (width : Width) (space handle address : ℕ) (f : Finding) → findFor b (bytes width) space handle address ≡ f
+  target-found : (width : Width) (space handle : ℕ) (address : InEdition) (f : Finding) → findNamedFor b (bytes width) space handle address ≡ f
       → (let p = partsOf b in
       cellTargetOf (λ c. getD (p .cellOffsets) (bases * (handle - 1) + c) 0) (byteOrder (p .records) (handle - 1)) (length (p .cells)) (bytes width) f)
       ≡ cellTargetAt b (bytes width) handle f
   unfolding partsOf cellTargetOf cellTargetAt
   target-found width space handle address (Found base distance remaining) e =
       let k = exponentOf (b .records) in
-      let v = in-window b width space handle address base distance remaining e in
+      let v = in-window b width space handle _ base distance remaining (found-named address _ base distance remaining e .1) in
       let n = bases * (handle - 1) + base in
       let there : n < windowsMax = omega (arith, v .low, v .high, v .six, s .kept .few) in
       let o = entryField (b .records) (handle - 1) base 1 in
@@ -78,27 +88,27 @@ module _ (b : Reference) (s : Sound b) where
       )
   target-found width space handle address (NoWindow r) e = refl
 
-  target-same : (width : Width) (space handle address : ℕ)
+  target-same : (width : Width) (space handle : ℕ) (address : InEdition)
       → (let p = partsOf b in cellTarget (bytes width) (p .header) (p .records) (p .windows) (p .cellOffsets) (length (p .cells)) space handle address)
       ≡ cellTargetFor b (bytes width) space handle address
-  target-same width space handle address = rw (find-same (bytes width) space handle address) (target-found width space handle address _ refl)
+  target-same width space handle address = rw (named-same (bytes width) space handle address) (target-found width space handle address _ refl)
 
-  pub same-read-data : (space : Space) (width : Width) (handle : ℕ) (address : BusAddress) (own : List ℕ)
+  pub same-read-data : (space : Space) (width : Width) (handle : ℕ) (address : InEdition) (own : List ℕ)
       → Simulated b (Data space width handle address Read) own
   unfolding step referenceStep partsOf
-  same-read-data space width handle address own = rw (target-same width _ handle (address .0)) (as-outcome b s)
+  same-read-data space width handle address own = rw (target-same width _ handle address) (as-outcome b s)
 
-  pub same-fast-read-data : (space : Space) (width : Width) (handle : ℕ) (address : BusAddress) (own : List ℕ)
+  pub same-fast-read-data : (space : Space) (width : Width) (handle : ℕ) (address : InEdition) (own : List ℕ)
       → Simulated b (Data space width handle address FastRead) own
   unfolding step referenceStep partsOf
-  same-fast-read-data space width handle address own = rw (target-same width _ handle (address .0)) (as-outcome b s)
+  same-fast-read-data space width handle address own = rw (target-same width _ handle address) (as-outcome b s)
 
-  pub same-write-data : (space : Space) (width : Width) (handle : ℕ) (address : BusAddress) (value : ℕ) (own : List ℕ)
+  pub same-write-data : (space : Space) (width : Width) (handle : ℕ) (address : InEdition) (value : ℕ) (own : List ℕ)
       → Simulated b (Data space width handle address (Write value)) own
   unfolding step referenceStep partsOf
   same-write-data space width handle address value own =
-      rw (target-same width _ handle (address .0))
-      (ifAt (cellTargetFor b (bytes width) (spaceNumber space) handle (address .0))
+      rw (target-same width _ handle address)
+      (ifAt (cellTargetFor b (bytes width) (spaceNumber space) handle address)
       (λ at order e.
       rw e (as-outcome _ (sound-with s (simp length-sets (omega arith)) (s .chained))))
       (λ r e. rw e (as-outcome b s)))

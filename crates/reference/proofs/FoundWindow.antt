@@ -12,7 +12,7 @@ use Rattle.data_window.specs.Find.{offers}
 use Rattle.data_window.specs.Meaning.{Asked, Given}
 use Rattle.data_window.specs.declared.find.Finding.{Finding}
 use Rattle.data_window.specs.declared.find.Finding.the-variants.{Found, Refused}
-use Rattle.data_window.specs.declared.refusal.DataRefusal.the-variants.{BadHandle, ShortCells, NotAligned, Nothing, Contested, WidthMissing, PastBuffer}
+use Rattle.data_window.specs.declared.refusal.DataRefusal.the-variants.{UnknownEdition, BadHandle, ShortCells, NotAligned, Nothing, Contested, WidthMissing, PastBuffer}
 use Rattle.data_window.proofs.Meaning.{find-means}
 use Rattle.cell_layout.specs.Cells.{total}
 use Rattle.reference.specs.Reference.{Reference, entryField, exponentOf, isHandleOf, windowsOf, findFor}
@@ -49,6 +49,7 @@ module _ (b : Reference) (w space handle address : ℕ) where
 
   -- what is found is found on its condition
   given : (f : Finding) → Met f → Condition b w space handle address f
+  given (Refused UnknownEdition) g = g
   given (Refused BadHandle) g = g
   given (Refused ShortCells) g = (g .0, ltb-true (length (b .cells)) (total k) (g .1))
   given (Refused NotAligned) g = (g .0, ltb-false (length (b .cells)) (total k) (g .1), g .2)
@@ -76,6 +77,7 @@ module _ (b : Reference) (w space handle address : ℕ) where
   reach {X} r v h contested missing found = by finding refl (find-means (isHandleOf b handle) short offered l space w handle address finding .0 refl)
     where
       by : (f : Finding) → finding ≡ f → Met f → X
+      by (Refused UnknownEdition) e g = absurd g
       by (Refused BadHandle) e g = absurd (false≢true (sym g ∙ r .goodHandle))
       by (Refused ShortCells) e g = absurd (false≢true (sym (le-ltb (length (b .cells)) (total k) (r .enoughCells)) ∙ g .1))
       by (Refused NotAligned) e g = absurd (g .2 (r .multiple))
@@ -87,6 +89,7 @@ module _ (b : Reference) (w space handle address : ℕ) where
 
   -- and on its condition it is found
   found-on : (f : Finding) → Condition b w space handle address f → finding ≡ f
+  found-on (Refused UnknownEdition) c = absurd c
   found-on (Refused BadHandle) c = find-means (isHandleOf b handle) short offered l space w handle address (Refused BadHandle) .1 c
   found-on (Refused ShortCells) c =
       find-means (isHandleOf b handle) short offered l space w handle address (Refused ShortCells) .1 (c .0, lt-ltb (length (b .cells)) (total k) (c .1))

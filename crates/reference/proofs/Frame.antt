@@ -116,7 +116,7 @@ module _ (b : Reference) (s : Sound b) (own : List ℕ) where
   stays (Data space width handle address Read) = keeps nothing b own _
   stays (Data space width handle address FastRead) = keeps nothing b own _
   stays (Data space width handle address (Write value)) =
-      ifAt (cellTargetFor b (bytes width) (spaceNumber space) handle (address .0))
+      ifAt (cellTargetFor b (bytes width) (spaceNumber space) handle address)
       (λ at order e. rw e (cells-and-own _ b _ own own _ (written-alike order _ at value (b .cells)) (alike _ own)))
       (λ r e. rw e (keeps _ b own _))
   stays (GetResource handle) = stays-resource b own handle

@@ -19,14 +19,16 @@ use Rattle.window.proofs.Exponents.{window-range}
 use Rattle.window_list.specs.Meaning.{OpenAt}
 use Rattle.window_list.proofs.Meaning.{means}
 use Rattle.data_order.specs.Orders.{cellDistance}
+use Rattle.call_edition.specs.declared.edition.InEdition.{InEdition}
 use Rattle.data_window.specs.declared.find.Finding.{Finding}
 use Rattle.data_window.specs.declared.find.Finding.the-variants.{Found, Refused as NoWindow}
 use Rattle.data_cells.specs.declared.target.CellTarget.the-variants.{At}
 use Rattle.data_window.proofs.Searches.{Held, held}
 use Rattle.data_window.proofs.Meaning.{found-means}
+use Rattle.data_window.proofs.OnBus.{found-named}
 use Rattle.data_order.proofs.Windows.{inside-window}
 use Rattle.cell_layout.specs.Cells.{slotCells, cellsBefore}
-use Rattle.reference.specs.Reference.{Reference, entryField, exponentOf, windowsOf, findFor, cellTargetAt, cellTargetFor}
+use Rattle.reference.specs.Reference.{Reference, entryField, exponentOf, windowsOf, findFor, findNamedFor, cellTargetAt, cellTargetFor}
 
 -- an accepted access lies in the cells of one window of its function
 pub record InSlot (b : Reference) (w handle at : ℕ) : Type 0 where
@@ -100,15 +102,15 @@ in-window b width space handle address base distance remaining e =
           at (window-inside width order (length rs) (exponentOf rs) (b .registers) (f .window) handle address o h (m .1 .0 .0));
     }
 
-pub in-slot : (b : Reference) (width : Width) (space handle address at order : ℕ)
+pub in-slot : (b : Reference) (width : Width) (space handle : ℕ) (address : InEdition) (at order : ℕ)
     → cellTargetFor b (bytes width) space handle address ≡ At at order → InSlot b (bytes width) handle at
 unfolding cellTargetAt
-in-slot b width space handle address at order e = by (findFor b (bytes width) space handle address) refl e
+in-slot b width space handle address at order e = by (findNamedFor b (bytes width) space handle address) refl e
   where
-    by : (f : Finding) → findFor b (bytes width) space handle address ≡ f → cellTargetAt b (bytes width) handle f ≡ At at order
+    by : (f : Finding) → findNamedFor b (bytes width) space handle address ≡ f → cellTargetAt b (bytes width) handle f ≡ At at order
         → InSlot b (bytes width) handle at
     by (Found base distance remaining) g h =
-        let w = in-window b width space handle address base distance remaining g in
+        let w = in-window b width space handle _ base distance remaining (found-named address _ base distance remaining g .1) in
         let o = entryField (b .records) (handle - 1) base 1 in
         record {
           base = base;

@@ -33,4 +33,5 @@ pub mod Demand3
 pub mod SingleCalls
 pub mod Holders
 pub mod FoundWindow
+pub mod Editions
 pub mod Rows

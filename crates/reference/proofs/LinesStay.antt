@@ -114,7 +114,7 @@ module _ (b : Reference) (own : List ℕ) (line : ℕ) where
   lines-stay (Data space width handle address Read) = stay (referenceStep b (Data space width handle address Read) own .answer)
   lines-stay (Data space width handle address FastRead) = stay (referenceStep b (Data space width handle address FastRead) own .answer)
   lines-stay (Data space width handle address (Write value)) =
-      data-line (bytes width) value (cellTargetFor b (bytes width) (spaceNumber space) handle (address .0))
+      data-line (bytes width) value (cellTargetFor b (bytes width) (spaceNumber space) handle address)
   lines-stay (GetResource handle) = stay (referenceStep b (GetResource handle) own .answer)
   lines-stay (HookInterrupt handle handler parameter) = hook-line handle handler parameter
   lines-stay (UnhookInterrupt handle) = unhook-line handle

@@ -41,7 +41,7 @@ quiet l (Config width handle register access) own t = absurd (false≢true t)
 quiet l (Data space width handle address Read) own t = l
 quiet l (Data space width handle address FastRead) own t = l
 quiet {h} {b} l (Data space width handle address (Write value)) own t =
-    hidden l (bytes width) handle value own (eqb-true handle h t) _ (in-slot b width (spaceNumber space) handle (address .0))
+    hidden l (bytes width) handle value own (eqb-true handle h t) _ (in-slot b width (spaceNumber space) handle address)
 quiet l (GetResource handle) own t = absurd (false≢true t)
 quiet l (HookInterrupt handle handler parameter) own t = absurd (false≢true t)
 quiet l (UnhookInterrupt handle) own t = absurd (false≢true t)

@@ -4,10 +4,12 @@ use mathlib.Core.Logic.{inl, inr}
 use mathlib.Core.Path.{_≡_, refl}
 use mathlib.Core.List.{List}
 use lib.Dec.{ltb, eqb}
+use lib.IntN.{ℤ}
 use lib.ListN.{length, getD}
 use Rattle.board.specs.Parts.{Parts, withRegisters}
 use Rattle.board.specs.Layout.{windowsMax}
-use Rattle.board.specs.declared.address.BusAddress.{BusAddress}
+use Rattle.call_edition.specs.Edition.{isKnown}
+use Rattle.call_edition.specs.declared.edition.InEdition.{InEdition}
 use Rattle.numbers.specs.declared.number.Width.{Width}
 use Rattle.numbers.specs.Numbers.{bytes}
 use Rattle.board.specs.Statuses.{badRegisterNumber, badHandle}
@@ -16,13 +18,14 @@ use Rattle.config_read.specs.Target.{target}
 use Rattle.config_read.specs.declared.target.Target.{Target}
 use Rattle.config_read.specs.declared.target.Target.the-variants.{Function, Refused}
 use Rattle.config_write.specs.Write.{writeConfig}
-use Rattle.data_cells.specs.Cells.{cellTarget}
+use Rattle.data_cells.specs.Cells.{cellTargetOf, cellTarget}
 use Rattle.board.specs.Spaces.{spaceNumber}
 use Rattle.data_window.specs.Find.{statusOf}
 use Rattle.data_window.specs.declared.refusal.DataRefusal.{DataRefusal}
-use Rattle.data_window.specs.declared.refusal.DataRefusal.the-variants.{BadHandle, ShortCells, NotAligned, Nothing, Contested, WidthMissing, PastBuffer}
+use Rattle.data_window.specs.declared.refusal.DataRefusal.the-variants.{UnknownEdition, BadHandle, ShortCells, NotAligned, Nothing, Contested, WidthMissing, PastBuffer}
 use Rattle.board.specs.declared.space.Space.{Space}
 use Rattle.data_cells.specs.declared.target.CellTarget.{CellTarget}
+use Rattle.data_cells.specs.declared.target.CellTarget.the-variants.{At, Refused as NoPlace}
 use Rattle.image_layout.specs.Image.{imageSize}
 use Rattle.reset.specs.Reset.{reset}
 use Rattle.load.specs.Load.{load}
@@ -31,11 +34,11 @@ use Rattle.call.specs.declared.call.Access.the-variants.{Read, FastRead, Write}
 use Rattle.call.specs.declared.call.Call.the-variants.{Load, Reset, WriteImage, Config, Data, GetResource, HookInterrupt, UnhookInterrupt, SetCardUsed, Ask}
 use Rattle.call.specs.Answers.{ofStatus}
 use Rattle.reference.specs.State.{outcome, blanked, step}
-use Rattle.reference.specs.Claims.{dataRefusals, Among, Refusal}
+use Rattle.reference.specs.Claims.{dataRefusals, inEditions, Among, Refusal}
 use Rattle.reference.proofs.Tests.{ifEither, ifTarget, ifAt}
 use Rattle.reference.proofs.Verdicts.{stated, ifVerdict}
 use Rattle.reference.proofs.Refused.{Kept, not-refused, untouched, kept-resource, kept-hook, kept-unhook, kept-set-used}
-use Rattle.reference.proofs.QueryRefused.{query-stated}
+use Rattle.reference.proofs.QueryRefused.{in-known, in-unknown, query-stated}
 
 -- what a configuration access of w bytes is for
 abbrev targetAt : Parts → ℕ → ℕ → ℕ → Target
@@ -58,12 +61,13 @@ write-kept p own width w handle register value =
     (λ e. rw e (λ f. untouched (inl refl) refl))
 
 -- where a data access stands
-abbrev placeAt : Parts → Space → Width → ℕ → BusAddress → CellTarget
+abbrev placeAt : Parts → Space → Width → ℕ → InEdition → CellTarget
 placeAt p space width handle address =
-    cellTarget (bytes width) (p .header) (p .records) (p .windows) (p .cellOffsets) (length (p .cells)) (spaceNumber space) handle (address .0)
+    cellTarget (bytes width) (p .header) (p .records) (p .windows) (p .cellOffsets) (length (p .cells)) (spaceNumber space) handle address
 
 -- it is refused with one of the stated numbers
 data-stated : (r : DataRefusal) → Among (statusOf r .0) dataRefusals
+data-stated UnknownEdition = inr (inr (inr (inl refl)))
 data-stated BadHandle = inl refl
 data-stated ShortCells = inr (inl refl)
 data-stated NotAligned = inr (inr (inl refl))
@@ -71,6 +75,20 @@ data-stated Nothing = inr (inr (inl refl))
 data-stated Contested = inr (inr (inl refl))
 data-stated WidthMissing = inr (inr (inr (inl refl)))
 data-stated PastBuffer = inr (inl refl)
+
+-- the numbers of a data access in its edition
+abbrev numbers : InEdition → List ℤ
+numbers address = inEditions address dataRefusals dataRefusals
+
+-- it stands at cells, or is refused with a number of its edition
+ifPlace : {X : Type 0} (p : Parts) (space : Space) (width : Width) (handle : ℕ) (address : InEdition)
+    → ((at order : ℕ) → placeAt p space width handle address ≡ At at order → X)
+    → ((r : DataRefusal) → Among (statusOf r .0) (numbers address) → placeAt p space width handle address ≡ NoPlace r → X) → X
+unfolding cellTargetOf
+ifPlace p space width handle address f g =
+    ifEither (isKnown address)
+    (λ k. ifAt (placeAt p space width handle address) f (λ r. g r (in-known address _ _ _ k (data-stated r) (data-stated r))))
+    (λ k. g UnknownEdition (in-unknown address _ _ k) (rw k))
 
 pub refusal : Refusal
 unfolding step load reset writeImage
@@ -98,14 +116,14 @@ refusal p (Config width handle register FastRead) own =
     (λ e. rw e (λ f. untouched (inl refl) refl))
 refusal p (Config width handle register (Write value)) own = write-kept p own width _ handle register value
 refusal p (Data space width handle address Read) own =
-    ifAt (placeAt p space width handle address) (λ at order e. rw e (λ f. not-refused f))
-    (λ r e. rw e (λ f. untouched (data-stated r) refl))
+    ifPlace p space width handle address (λ at order e. rw e (λ f. not-refused f))
+    (λ r n e. rw e (λ f. untouched n refl))
 refusal p (Data space width handle address FastRead) own =
-    ifAt (placeAt p space width handle address) (λ at order e. rw e (λ f. not-refused f))
-    (λ r e. rw e (λ f. untouched (inl refl) refl))
+    ifPlace p space width handle address (λ at order e. rw e (λ f. not-refused f))
+    (λ r n e. rw e (λ f. untouched (inl refl) refl))
 refusal p (Data space width handle address (Write value)) own =
-    ifAt (placeAt p space width handle address) (λ at order e. rw e (λ f. not-refused f))
-    (λ r e. rw e (λ f. untouched (data-stated r) refl))
+    ifPlace p space width handle address (λ at order e. rw e (λ f. not-refused f))
+    (λ r n e. rw e (λ f. untouched n refl))
 refusal p (GetResource handle) own = kept-resource p own handle
 refusal p (HookInterrupt handle handler parameter) own = kept-hook p own handle handler parameter
 refusal p (UnhookInterrupt handle) own = kept-unhook p own handle

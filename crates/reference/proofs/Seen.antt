@@ -134,14 +134,14 @@ module _ {h : ℕ} (b : Reference) (m : List ℕ) (l : Like h b (withCellsOf m b
   seen-with (Config width handle register FastRead) t = both-outcomes l
   seen-with (Config width handle register (Write value)) t = seen-config (bytes width) register value (targetOf b (bytes width) handle register)
   seen-with (Data space width handle address Read) t =
-      let r = reads (bytes width) handle (eqb-false handle h t) _ (in-slot b width (spaceNumber space) handle (address .0)) in
+      let r = reads (bytes width) handle (eqb-false handle h t) _ (in-slot b width (spaceNumber space) handle address) in
       rw (← l .others .room, target-same, r .0) (both-outcomes l)
   seen-with (Data space width handle address FastRead) t =
-      let r = reads (bytes width) handle (eqb-false handle h t) _ (in-slot b width (spaceNumber space) handle (address .0)) in
+      let r = reads (bytes width) handle (eqb-false handle h t) _ (in-slot b width (spaceNumber space) handle address) in
       rw (← l .others .room, target-same, r .1) (both-outcomes l)
   seen-with (Data space width handle address (Write value)) t =
       rw (← l .others .room, target-same)
-      (seen-write (bytes width) value (cellTargetFor b (bytes width) (spaceNumber space) handle (address .0)))
+      (seen-write (bytes width) value (cellTargetFor b (bytes width) (spaceNumber space) handle address))
   seen-with (GetResource handle) t = both-outcomes l
   seen-with (HookInterrupt handle handler parameter) t = seen-hook handle handler parameter
   seen-with (UnhookInterrupt handle) t = seen-unhook handle

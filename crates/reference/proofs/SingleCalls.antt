@@ -11,7 +11,7 @@ use Rattle.board.specs.Spaces.{spaceNumber}
 use Rattle.numbers.specs.Numbers.{bytes}
 use Rattle.data_window.specs.Find.{statusOf}
 use Rattle.data_window.specs.declared.refusal.DataRefusal.{DataRefusal}
-use Rattle.data_window.specs.declared.refusal.DataRefusal.the-variants.{BadHandle, ShortCells, NotAligned, Nothing, Contested, WidthMissing, PastBuffer}
+use Rattle.data_window.specs.declared.refusal.DataRefusal.the-variants.{UnknownEdition, BadHandle, ShortCells, NotAligned, Nothing, Contested, WidthMissing, PastBuffer}
 use Rattle.data_access.proofs.Meaning.{data-read-back, other-reads-kept}
 use Rattle.image_refusals.specs.Refusals.{accepted}
 use Rattle.reset.specs.Reset.{reset, restarted}
@@ -28,6 +28,7 @@ use Rattle.reference.proofs.Tests.{ifEither, ifAt}
 use Rattle.reference.proofs.Verdicts.{stated, ifVerdict}
 
 data-refuses : (r : DataRefusal) → refuses (statusOf r .0) ≡ true
+data-refuses UnknownEdition = refl
 data-refuses BadHandle = refl
 data-refuses ShortCells = refl
 data-refuses NotAligned = refl
@@ -48,7 +49,7 @@ unfolding step
 read-after-write p space width handle address value own mine =
     ifAt (cellsOfAccess p space width handle address)
     (λ at order e f.
-    ap ofRead (data-read-back (bytes width) (p .header) (p .records) (p .windows) (p .cellOffsets) (p .cells) (spaceNumber space) handle (address .0) value (rw e)))
+    ap ofRead (data-read-back (bytes width) (p .header) (p .records) (p .windows) (p .cellOffsets) (p .cells) (spaceNumber space) handle address value (rw e)))
     (λ r e. rw (e, data-refuses r) (λ f. absurd (false≢true (sym f))))
 
 other-reads : OtherReads
@@ -56,11 +57,11 @@ unfolding step
 other-reads p space space′ width width′ handle handle′ address address′ value Read own mine w apart =
     ap ofRead
     (other-reads-kept (p .header) (p .records) (p .windows) (p .cellOffsets) (p .cells)
-    (bytes width) (spaceNumber space) handle (address .0) value (bytes width′) (spaceNumber space′) handle′ (address′ .0) apart .plain)
+    (bytes width) (spaceNumber space) handle address value (bytes width′) (spaceNumber space′) handle′ address′ apart .plain)
 other-reads p space space′ width width′ handle handle′ address address′ value FastRead own mine w apart =
     ap ofFastRead
     (other-reads-kept (p .header) (p .records) (p .windows) (p .cellOffsets) (p .cells)
-    (bytes width) (spaceNumber space) handle (address .0) value (bytes width′) (spaceNumber space′) handle′ (address′ .0) apart .fast)
+    (bytes width) (spaceNumber space) handle address value (bytes width′) (spaceNumber space′) handle′ address′ apart .fast)
 other-reads p space space′ width width′ handle handle′ address address′ value (Write v) own mine w apart = absurd (false≢true (sym w))
 
 -- count and records stay with every call but a load

@@ -23,6 +23,7 @@ use Rattle.numbers.specs.Numbers.{bytes}
 use Rattle.numbers.specs.declared.number.Width.{Width}
 use Rattle.board.specs.Statuses.{
   funcNotSupported,
+  badVendorId,
   deviceNotFound,
   badRegisterNumber,
   bufferTooSmall,
@@ -30,6 +31,8 @@ use Rattle.board.specs.Statuses.{
   badHandle,
   setFailed,
 }
+use Rattle.call_edition.specs.Edition.{isDraft, isKnown}
+use Rattle.call_edition.specs.declared.edition.InEdition.{InEdition}
 use Rattle.config_write.specs.Write.{movesWindows}
 use Rattle.board.specs.Spaces.{spaceNumber}
 use Rattle.data_cells.specs.declared.target.CellTarget.{CellTarget}
@@ -95,6 +98,11 @@ use Rattle.reference.specs.Run.{
 abbrev pub dataRefusals : List ℤ
 dataRefusals = badHandle .0 ∷ bufferTooSmall .0 ∷ generalError .0 ∷ funcNotSupported .0 ∷ []
 
+-- The numbers in draft 1.9 and in the later text; an unknown edition has -2 alone.
+abbrev pub inEditions : InEdition → List ℤ → List ℤ → List ℤ
+inEditions named draft later =
+    cond (isDraft named) draft (cond (isKnown named) later (funcNotSupported .0 ∷ []))
+
 -- A fast read has no number, and 0 stands there.
 abbrev pub accessRefusals : Access → List ℤ → List ℤ
 accessRefusals Read l = l
@@ -102,8 +110,10 @@ accessRefusals FastRead l = pos 0 ∷ []
 accessRefusals (Write value) l = l
 
 abbrev pub queryRefusals : Query → List ℤ
-queryRefusals (FindPciDevice id index) = deviceNotFound .0 ∷ []
-queryRefusals (FindPciClasscode class index) = deviceNotFound .0 ∷ []
+queryRefusals (FindPciDevice id index) =
+    inEditions id (badVendorId .0 ∷ deviceNotFound .0 ∷ []) (deviceNotFound .0 ∷ [])
+queryRefusals (FindPciClasscode class index) =
+    inEditions class (deviceNotFound .0 ∷ []) (deviceNotFound .0 ∷ [])
 queryRefusals (BusToCpu handle address) = badHandle .0 ∷ []
 queryRefusals (CpuToBus handle address) = badHandle .0 ∷ []
 queryRefusals (ListChain line index) = generalError .0 ∷ deviceNotFound .0 ∷ []
@@ -120,7 +130,8 @@ refusals Reset = bufferTooSmall .0 ∷ []
 refusals WriteImage = pos 1 ∷ pos 3 ∷ []
 refusals (Config width handle register access) =
     accessRefusals access (badHandle .0 ∷ badRegisterNumber .0 ∷ [])
-refusals (Data space width handle address access) = accessRefusals access dataRefusals
+refusals (Data space width handle address access) =
+    accessRefusals access (inEditions address dataRefusals dataRefusals)
 refusals (GetResource handle) = badHandle .0 ∷ generalError .0 ∷ bufferTooSmall .0 ∷ []
 refusals (HookInterrupt handle handler parameter) =
     badHandle .0 ∷ generalError .0 ∷ setFailed .0 ∷ []
@@ -255,7 +266,7 @@ mayTouch b (Config width handle register access) own =
     (touch none false (addressed (bytes width) handle register)
     (movesWindows (bytes width) register) hooksStay none none none)
 mayTouch b (Data space width handle address access) own =
-    let target = cellTargetFor b (bytes width) (spaceNumber space) handle (address .0) in
+    let target = cellTargetFor b (bytes width) (spaceNumber space) handle address in
     ifWrites access
     (touch none false none false hooksStay none (accessed (bytes width) target) none)
 mayTouch b (GetResource handle) own =

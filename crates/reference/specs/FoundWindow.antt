@@ -14,6 +14,7 @@ use Rattle.data_window.specs.Meaning.{HeldBy}
 use Rattle.data_window.specs.declared.find.Finding.{Finding}
 use Rattle.data_window.specs.declared.find.Finding.the-variants.{Found, Refused}
 use Rattle.data_window.specs.declared.refusal.DataRefusal.the-variants.{
+  UnknownEdition,
   BadHandle,
   ShortCells,
   NotAligned,
@@ -55,8 +56,10 @@ module _ (b : Reference) (w space handle address : ℕ) where
   abbrev pub Offers : Window → Type 0
   Offers v = offers w (entryField (b .records) (handle - 1) (v .base) 2) ≡ true
 
-  -- the condition of each finding: its own check fails and none before it does, or none fails
+  -- the condition of each finding: its own check fails and none before it does, or none fails; the
+  -- address is one of the bus, so that no edition is asked here
   abbrev pub Condition : Finding → Type 0
+  Condition (Refused UnknownEdition) = ⊥
   Condition (Refused BadHandle) = isHandleOf b handle ≡ false
   Condition (Refused ShortCells) = (isHandleOf b handle ≡ true) × (length (b .cells) < needed)
   Condition (Refused NotAligned) =

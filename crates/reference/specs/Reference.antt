@@ -7,7 +7,8 @@
 --
 -- It takes over from the crates below their rules on plain values, which name no lent part: what a
 -- record must be and the first refusal of an image, windows and the lengths of their cells,
--- matches, masks, the orders of checks, byte orders, descriptors, and the numbers of answers.
+-- matches, what is named in a call edition, masks, the orders of checks, byte orders, descriptors,
+-- and the numbers of answers.
 --
 -- It works out afresh what the program keeps, or holds in another form:
 --   the window list   from records and registers, at every call that needs it; kept by the program
@@ -33,20 +34,22 @@ use Rattle.board.specs.Layout.{
   baseRegister,
 }
 use Rattle.board.specs.Statuses.{successful, funcNotSupported, bufferTooSmall}
+use Rattle.call_edition.specs.Edition.{busOf}
+use Rattle.call_edition.specs.declared.edition.InEdition.{InEdition}
 use Rattle.window.specs.Window.{Window}
 use Rattle.window_list.specs.Windows.{listOf}
 use Rattle.window_listing.specs.Listing.{listedNumber, listedValues}
 use Rattle.config_read.specs.Target.{target}
 use Rattle.config_read.specs.Read.{readOf, fastReadOf}
 use Rattle.config_write.specs.Write.{written}
-use Rattle.search.specs.Search.{devices, classes, searchNumber}
+use Rattle.search.specs.Search.{soughtDevices, soughtClasses, soughtNumber}
 use Rattle.config_read.specs.declared.target.Target.{Target}
 use Rattle.config_read.specs.declared.target.Target.the-variants.{Function, Refused}
 use Rattle.data_cells.specs.Cells.{cellsAfter}
 use Rattle.address_convert.specs.Convert.{toCpu, toBus}
 use Rattle.data_access.specs.Data.{readAt, fastReadAt}
 use Rattle.board.specs.Spaces.{spaceNumber}
-use Rattle.data_window.specs.Find.{offers, find, statusOf}
+use Rattle.data_window.specs.Find.{offers, find, statusOf, ifKnown}
 use Rattle.data_order.specs.Orders.{cellDistance}
 use Rattle.data_window.specs.declared.find.Finding.{Finding}
 use Rattle.data_window.specs.declared.find.Finding.the-variants.{Found, Refused as NoWindow}
@@ -218,15 +221,22 @@ cellTargetAt b w handle (Found base distance remaining) =
     order
 cellTargetAt b w handle (NoWindow r) = NoPlace r
 
-abbrev pub cellTargetFor : Reference → ℕ → ℕ → ℕ → ℕ → CellTarget
-cellTargetFor b w space handle address = cellTargetAt b w handle (findFor b w space handle address)
-
-abbrev pub withCellsOf : List ℕ → Reference → Reference
-withCellsOf cells b = reference (b .records) (b .registers) cells (b .chains) (b .used)
-
 -- what the CPU sees of a function's bus addresses is above them by its offset
 abbrev pub offsetOf : List (List ℕ) → ℕ → ℕ
 offsetOf records i = big 4 (byteAt (recordOf records i)) offsetAt
+
+-- for what is named to a handle in a call edition, by the offset of the handle's own function
+abbrev pub findNamedFor : Reference → ℕ → ℕ → ℕ → InEdition → Finding
+findNamedFor b w space handle address =
+    ifKnown address
+    (findFor b w space handle (busOf (offsetOf (b .records) (handle - 1)) address .0))
+
+abbrev pub cellTargetFor : Reference → ℕ → ℕ → ℕ → InEdition → CellTarget
+cellTargetFor b w space handle address =
+    cellTargetAt b w handle (findNamedFor b w space handle address)
+
+abbrev pub withCellsOf : List ℕ → Reference → Reference
+withCellsOf cells b = reference (b .records) (b .registers) cells (b .chains) (b .used)
 
 abbrev pub dmaOffsetOf : List (List ℕ) → ℕ → ℕ
 dmaOffsetOf records i = big 4 (byteAt (recordOf records i)) dmaOffsetAt
@@ -310,9 +320,9 @@ blankedOf b = withCellsOf (replicate (length (b .cells)) 0) b
 -- the answer of a call that changes nothing
 unfoldable pub referenceQueried : Reference → Query → Answer
 referenceQueried b (FindPciDevice id index) =
-    ofSearch (searchNumber (devices id (length (b .records)) (b .registers)) index)
+    ofSearch (soughtNumber (soughtDevices id (length (b .records)) (b .registers)) index)
 referenceQueried b (FindPciClasscode class index) =
-    ofSearch (searchNumber (classes class (length (b .records)) (b .registers)) index)
+    ofSearch (soughtNumber (soughtClasses class (length (b .records)) (b .registers)) index)
 referenceQueried b (BusToCpu handle address) =
     ofToCpu (toCpu (isHandleOf b handle) (offsetOf (b .records) (handle - 1)) address)
 referenceQueried b (CpuToBus handle address) =
@@ -351,13 +361,13 @@ referenceStep b (Config width handle register FastRead) own =
 referenceStep b (Config width handle register (Write value)) own =
     writeOf b (bytes width) register value own (targetOf b (bytes width) handle register)
 referenceStep b (Data space width handle address Read) own =
-    let target = cellTargetFor b (bytes width) (spaceNumber space) handle (address .0) in
+    let target = cellTargetFor b (bytes width) (spaceNumber space) handle address in
     referenceOutcome (ofRead (readAt (bytes width) (b .cells) target)) b own
 referenceStep b (Data space width handle address FastRead) own =
-    let target = cellTargetFor b (bytes width) (spaceNumber space) handle (address .0) in
+    let target = cellTargetFor b (bytes width) (spaceNumber space) handle address in
     referenceOutcome (ofFastRead (fastReadAt (bytes width) (b .cells) target)) b own
 referenceStep b (Data space width handle address (Write value)) own =
-    let target = cellTargetFor b (bytes width) (spaceNumber space) handle (address .0) in
+    let target = cellTargetFor b (bytes width) (spaceNumber space) handle address in
     writeDataOf b (bytes width) value own target
 referenceStep b (GetResource handle) own =
     let g = resource (isHandleOf b handle) (sourceFor b handle) own in

@@ -9,7 +9,7 @@ use lib.IntN.{pos}
 use lib.ListN.{length, take}
 use Rattle.board.specs.Parts.{Parts}
 use Rattle.board.specs.Spaces.{spaceNumber}
-use Rattle.board.specs.declared.address.BusAddress.{BusAddress}
+use Rattle.call_edition.specs.declared.edition.InEdition.{InEdition}
 use Rattle.board.specs.declared.space.Space.{Space}
 use Rattle.numbers.specs.Numbers.{bytes}
 use Rattle.numbers.specs.declared.number.Width.{Width}
@@ -45,15 +45,15 @@ pub record SameRead (fast plain : Answer) : Type 0 where
 
 abbrev pub FastIsPlain : Type 0
 FastIsPlain =
-    (p : Parts) (space : Space) (width : Width) (handle : ℕ) (address : BusAddress) (own : List ℕ)
+    (p : Parts) (space : Space) (width : Width) (handle : ℕ) (address : InEdition) (own : List ℕ)
     → SameRead (step p (Data space width handle address FastRead) own .answer)
     (step p (Data space width handle address Read) own .answer)
 
--- a read after an accepted write through the same handle, address and width gives the value back,
--- of which the bytes of the width were taken
+-- a read after an accepted write by the same handle, address, edition and width gives the value
+-- back, of which the bytes of the width were taken
 abbrev pub ReadAfterWrite : Type 0
 ReadAfterWrite =
-    (p : Parts) (space : Space) (width : Width) (handle : ℕ) (address : BusAddress) (value : ℕ)
+    (p : Parts) (space : Space) (width : Width) (handle : ℕ) (address : InEdition) (value : ℕ)
     (own mine : List ℕ)
     → (let wrote = step p (Data space width handle address (Write value)) own in
     wrote .answer .refused ≡ false
@@ -61,17 +61,17 @@ ReadAfterWrite =
     ≡ answer (pos 0) (one (value % 256 ^ bytes width)))
 
 -- the cells of a data access
-abbrev pub cellsOfAccess : Parts → Space → Width → ℕ → BusAddress → CellTarget
+abbrev pub cellsOfAccess : Parts → Space → Width → ℕ → InEdition → CellTarget
 cellsOfAccess p space width handle address =
     cellTarget (bytes width) (p .header) (p .records) (p .windows) (p .cellOffsets)
-    (length (p .cells)) (spaceNumber space) handle (address .0)
+    (length (p .cells)) (spaceNumber space) handle address
 
--- every data read, of any width, space and handle, plain or fast, that has none of the written
--- cells is unchanged
+-- every data read, of any width, space, handle and edition, plain or fast, that has none of the
+-- written cells is unchanged
 abbrev pub OtherReads : Type 0
 OtherReads =
     (p : Parts) (space space′ : Space) (width width′ : Width) (handle handle′ : ℕ)
-    (address address′ : BusAddress) (value : ℕ) (access : Access) (own mine : List ℕ)
+    (address address′ : InEdition) (value : ℕ) (access : Access) (own mine : List ℕ)
     → writes access ≡ false
     → ((j : ℕ) → HasCell (bytes width) (cellsOfAccess p space width handle address) j
     → HasCell (bytes width′) (cellsOfAccess p space′ width′ handle′ address′) j → ⊥)

@@ -10,12 +10,12 @@ use Rattle.board.specs.Handles.{functionCount}
 use Rattle.board.specs.Layout.{registerByte}
 use Rattle.numbers.specs.Numbers.{bytes}
 use Rattle.numbers.specs.declared.number.Width.{Width}
-use Rattle.board.specs.declared.address.BusAddress.{BusAddress}
+use Rattle.call_edition.specs.declared.edition.InEdition.{InEdition}
 use Rattle.board.specs.declared.space.Space.{Space}
 use Rattle.window.specs.Kept.{unpacked}
 use Rattle.window_listing.specs.Listing.{listing, listingNumber, listingValues}
 use Rattle.config_read.specs.Read.{readConfig, fastReadConfig}
-use Rattle.search.specs.Search.{devices, classes, searched, foundNumber}
+use Rattle.search.specs.Search.{soughtDevices, soughtClasses, soughtAt, foundNumber}
 use Rattle.config_write.specs.Write.{writeConfig}
 use Rattle.address_convert.specs.Convert.{busToCpu, cpuToBus}
 use Rattle.data_access.specs.Data.{readData, fastReadData, writeData}
@@ -88,11 +88,11 @@ blanked p = withCells (replicate (length (p .cells)) 0) p
 -- the answer of a call that changes nothing
 unfoldable pub queried : Parts → Query → Answer
 queried p (FindPciDevice id index) =
-    let hs = devices id (functionCount (p .header)) (registerByte (p .registers)) in
-    ofSearch (foundNumber (searched hs index))
+    let s = soughtDevices id (functionCount (p .header)) (registerByte (p .registers)) in
+    ofSearch (foundNumber (soughtAt s index))
 queried p (FindPciClasscode class index) =
-    let hs = classes class (functionCount (p .header)) (registerByte (p .registers)) in
-    ofSearch (foundNumber (searched hs index))
+    let s = soughtClasses class (functionCount (p .header)) (registerByte (p .registers)) in
+    ofSearch (foundNumber (soughtAt s index))
 queried p (BusToCpu handle address) = ofToCpu (busToCpu (p .header) (p .records) handle address)
 queried p (CpuToBus handle address) = ofToBus (cpuToBus (p .header) (p .records) handle address)
 queried p (ListChain line index) =
@@ -135,20 +135,20 @@ abbrev pub dataOutcome : Answer → List ℕ → DataOutcome
 dataOutcome a cells = record { answer = a; cells = cells }
 
 abbrev pub dataAccess : List ℕ → List ℕ → List ℕ → List ℕ → List ℕ
-    → Space → Width → ℕ → BusAddress → Access → DataOutcome
+    → Space → Width → ℕ → InEdition → Access → DataOutcome
 dataAccess header records windows offsets cells space width handle address Read =
     dataOutcome
     (ofRead (readData (bytes width) header records windows offsets cells
-    (spaceNumber space) handle (address .0)))
+    (spaceNumber space) handle address))
     cells
 dataAccess header records windows offsets cells space width handle address FastRead =
     dataOutcome
     (ofFastRead (fastReadData (bytes width) header records windows offsets cells
-    (spaceNumber space) handle (address .0)))
+    (spaceNumber space) handle address))
     cells
 dataAccess header records windows offsets cells space width handle address (Write value) =
     let w = writeData (bytes width) header records windows offsets cells (spaceNumber space) handle
-    (address .0) value in
+    address value in
     dataOutcome (ofStatus (w .status)) (w .cells)
 
 -- a hook and an unhook leave hooks

@@ -72,12 +72,28 @@ fn number(call: &[u8]) {
     }
 }
 
-// Prints what a letter stands for: beside the positions above, I is the register or bus, N a number
-// that is handed over, W descriptors, X and Y the answer's number.
+// Prints the call's edition as a last argument, where it is not the later text: argument c of the
+// header is the edition with 0 and 2 exchanged.
+fn edition(request: &[u8]) {
+    let c = big_at(request, 16, Width::Long);
+    if c == 0 {
+        return;
+    }
+    text(b", edition ");
+    if c == 2 {
+        decimal(0);
+        return;
+    }
+    decimal(c as u64);
+}
+
+// Prints what a letter stands for: beside the positions above, I is the register or bus, K the
+// edition, N a number that is handed over, W descriptors, X and Y the answer's number.
 fn put(letter: u8, n: u64, request: &[u8], call: &[u8]) {
     let size = size(letter, byte_at(request, 1));
     match letter {
         b'I' => hexadecimal(wide(byte_at(request, 3)), 1),
+        b'K' => edition(request),
         b'N' => decimal(n),
         b'W' => descriptors(call, CALL_HEADER),
         b'X' | b'Y' => number(call),
@@ -133,8 +149,8 @@ pub(crate) fn print(line: u32, n: u64, request: &[u8], call: &[u8]) {
 load(N bytes) = Y, record R
 reset() = X
 write_image(N bytes) = X
-find_pci_device(0xA, D) = X
-find_pci_classcode(0xA, D) = X
+find_pci_device(0xA, DK) = X
+find_pci_classcode(0xA, DK) = X
 read_config_byte(H, 0xI) = X, 0xP
 read_config_word(H, 0xI) = X, 0xP
 read_config_longword(H, 0xI) = X, 0xP
@@ -144,24 +160,24 @@ fast_read_config_longword(H, 0xI) = 0xPZ fault
 write_config_byte(H, 0xI, 0xE) = X
 write_config_word(H, 0xI, 0xE) = X
 write_config_longword(H, 0xI, 0xE) = X
-read_mem_byte(H, 0xA) = X, 0xP
-read_mem_word(H, 0xA) = X, 0xP
-read_mem_longword(H, 0xA) = X, 0xP
-read_io_byte(H, 0xA) = X, 0xP
-read_io_word(H, 0xA) = X, 0xP
-read_io_longword(H, 0xA) = X, 0xP
-fast_read_mem_byte(H, 0xA) = 0xPZ fault
-fast_read_mem_word(H, 0xA) = 0xPZ fault
-fast_read_mem_longword(H, 0xA) = 0xPZ fault
-fast_read_io_byte(H, 0xA) = 0xPZ fault
-fast_read_io_word(H, 0xA) = 0xPZ fault
-fast_read_io_longword(H, 0xA) = 0xPZ fault
-write_mem_byte(H, 0xA, 0xF) = X
-write_mem_word(H, 0xA, 0xF) = X
-write_mem_longword(H, 0xA, 0xF) = X
-write_io_byte(H, 0xA, 0xF) = X
-write_io_word(H, 0xA, 0xF) = X
-write_io_longword(H, 0xA, 0xF) = X
+read_mem_byte(H, 0xAK) = X, 0xP
+read_mem_word(H, 0xAK) = X, 0xP
+read_mem_longword(H, 0xAK) = X, 0xP
+read_io_byte(H, 0xAK) = X, 0xP
+read_io_word(H, 0xAK) = X, 0xP
+read_io_longword(H, 0xAK) = X, 0xP
+fast_read_mem_byte(H, 0xAK) = 0xPZ fault
+fast_read_mem_word(H, 0xAK) = 0xPZ fault
+fast_read_mem_longword(H, 0xAK) = 0xPZ fault
+fast_read_io_byte(H, 0xAK) = 0xPZ fault
+fast_read_io_word(H, 0xAK) = 0xPZ fault
+fast_read_io_longword(H, 0xAK) = 0xPZ fault
+write_mem_byte(H, 0xA, 0xFK) = X
+write_mem_word(H, 0xA, 0xFK) = X
+write_mem_longword(H, 0xA, 0xFK) = X
+write_io_byte(H, 0xA, 0xFK) = X
+write_io_word(H, 0xA, 0xFK) = X
+write_io_longword(H, 0xA, 0xFK) = X
 bus_to_cpu(H, 0xA) = X, 0xQ
 cpu_to_bus(H, 0xA) = X, 0xQ
 list_window(C) = X, mem 0xS 0xT U V clear

@@ -1,11 +1,11 @@
 -- The rows, worked out.
 use mathlib.Core.Path.{refl}
 use Rattle.numbers.specs.Numbers.{little}
-use Rattle.search.specs.Search.{matching, searched, searchNumber}
+use Rattle.search.specs.Search.{matching, searched, searchNumber, soughtAt, soughtNumber}
 use Rattle.search.specs.Rows.{SearchRows}
 
 pub search-rows : SearchRows
-unfolding little matching searched searchNumber
+unfolding little matching searched searchNumber soughtAt soughtNumber
 search-rows =
     record {
       deviceAndVendor = refl;
@@ -23,4 +23,12 @@ search-rows =
       index = refl;
       number = refl;
       noMatch = refl;
+      draftDevices = refl;
+      draftVendors = refl;
+      deviceEditions = refl;
+      draftClasses = refl;
+      classEditions = refl;
+      soughtRefused = refl;
+      refusedNumber = refl;
+      soughtFound = refl;
     }

@@ -14,7 +14,7 @@ use Rattle.board.specs.Statuses.{deviceNotFound}
 use Rattle.numbers.proofs.Numbers.{little-same}
 use Rattle.search.specs.declared.search.Search.{Search}
 use Rattle.search.specs.declared.search.Search.the-variants.{Found, Refused}
-use Rattle.search.specs.Search.{deviceMatches, classMatches, matching, searched, foundNumber, searchNumber, Finds}
+use Rattle.search.specs.Search.{deviceMatches, classMatches, matching, searched, foundNumber, searchNumber, Sought, handles, refusedWith, soughtAt, soughtNumber, Finds}
 use Rattle.search.specs.Meaning.{matchesBefore, Indexed, IndexRule}
 
 -- the number of the answer at an index is the number that document 01 gives it
@@ -24,8 +24,13 @@ search-number [] n = refl
 search-number (h ∷ hs) zero = refl
 search-number (h ∷ hs) (suc n) = search-number hs n
 
-pub finds : (hs : List ℕ) (n : ℕ) (r : Search) → r ≡ searched hs n → Finds hs n r
-finds hs n r e = record { answer = e; number = ap foundNumber e ∙ search-number hs n }
+pub sought-number : (s : Sought) (n : ℕ) → foundNumber (soughtAt s n) ≡ soughtNumber s n
+unfolding soughtAt soughtNumber
+sought-number (handles hs) n = search-number hs n
+sought-number (refusedWith status) n = refl
+
+pub finds : (s : Sought) (n : ℕ) (r : Search) → r ≡ soughtAt s n → Finds s n r
+finds s n r e = record { answer = e; number = ap foundNumber e ∙ sought-number s n }
 
 -- a search depends on the functions that it looks at
 pub matching-same : (m m′ : ℕ → Bool) (i n : ℕ) → ((j : ℕ) → j < i + n → m j ≡ m′ j) → matching m i n ≡ matching m′ i n

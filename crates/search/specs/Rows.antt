@@ -1,5 +1,5 @@
 -- Rows with literal numbers of document 01, "Searching": which functions match, and what an index
--- gives.
+-- gives; and of request E1: what is searched for in each call edition.
 use Prim.Native.Nat.{ℕ}
 use mathlib.Core.Bool.{Bool, true, false}
 use mathlib.Core.List.{List, [], _∷_, map}
@@ -8,6 +8,7 @@ use lib.IntN.{pos, negℤ}
 use lib.ListN.{getD}
 use Rattle.numbers.specs.Numbers.{byteAt}
 use Rattle.board.specs.Statuses.{minus}
+use Rattle.call_edition.specs.Edition.{inEdition}
 use Rattle.search.specs.declared.search.Search.the-variants.{Found, Refused}
 use Rattle.search.specs.Search.{
   deviceMatches,
@@ -16,6 +17,13 @@ use Rattle.search.specs.Search.{
   classes,
   searched,
   searchNumber,
+  Sought,
+  handles,
+  refusedWith,
+  soughtDevices,
+  soughtClasses,
+  soughtAt,
+  soughtNumber,
 }
 
 -- the first registers of a function of vendor 1234h, device 5678h, revision 44h, class 112233h; and
@@ -35,6 +43,13 @@ hasDevice id = deviceMatches id (byteAt card)
 
 abbrev hasClass : ℕ → Bool
 hasClass class = classMatches class (byteAt card)
+
+-- what is sought among them
+abbrev sought : ℕ → ℕ → Sought
+sought edition id = soughtDevices (inEdition id edition) 3 cards
+
+abbrev soughtClass : ℕ → ℕ → Sought
+soughtClass edition class = soughtClasses (inEdition class edition) 3 cards
 
 pub record SearchRows : Type 0 where
   -- device ID in bits 31..16, vendor in 15..0
@@ -77,3 +92,25 @@ pub record SearchRows : Type 0 where
       (0 ∷ 1 ∷ 2 ∷ 3 ∷ 0xFFFFFFFF ∷ [])
       ≡ pos 1 ∷ pos 3 ∷ negℤ (pos 4) ∷ negℤ (pos 4) ∷ negℤ (pos 4) ∷ []
   pub noMatch : searched (devices 0x00010002 3 cards) 0 ≡ Refused (minus 4)
+  -- in draft 1.9 the vendor stands in bits 31..16, and FFFFh is refused there and only there
+  pub draftDevices : map (sought 1) (0x12345678 ∷ 0x56781234 ∷ 0x12355679 ∷ [])
+      ≡ handles (1 ∷ 3 ∷ []) ∷ handles [] ∷ handles (2 ∷ []) ∷ []
+  pub draftVendors : map (sought 1) (0xFFFF5678 ∷ 0xFFFFFFFF ∷ 0xFFFE5678 ∷ 0x1234FFFF ∷ [])
+      ≡ refusedWith (minus 3) ∷ refusedWith (minus 3) ∷ handles [] ∷ handles [] ∷ []
+  -- an unknown edition before vendor FFFFh, which in the later text stands in bits 15..0
+  pub deviceEditions : map (λ e. sought e 0xFFFF1234) (0 ∷ 1 ∷ 2 ∷ 3 ∷ 0x101 ∷ [])
+      ≡ refusedWith (minus 2) ∷ refusedWith (minus 3) ∷ handles [] ∷ refusedWith (minus 2)
+      ∷ refusedWith (minus 2) ∷ []
+  -- class bits 31..24 play no part in draft 1.9: all three bytes are compared
+  pub draftClasses : map (soughtClass 1) (0x00112233 ∷ 0xFF112233 ∷ 0x04FF2233 ∷ [])
+      ≡ handles (1 ∷ 3 ∷ []) ∷ handles (1 ∷ 3 ∷ []) ∷ handles [] ∷ []
+  pub classEditions : map (λ e. soughtClass e 0x04FF2233) (0 ∷ 1 ∷ 2 ∷ 3 ∷ 0x102 ∷ [])
+      ≡ refusedWith (minus 2) ∷ handles [] ∷ handles (1 ∷ 3 ∷ []) ∷ refusedWith (minus 2)
+      ∷ refusedWith (minus 2) ∷ []
+  -- a refusal at every index
+  pub soughtRefused : map (soughtAt (refusedWith (minus 3))) (0 ∷ 7 ∷ [])
+      ≡ Refused (minus 3) ∷ Refused (minus 3) ∷ []
+  pub refusedNumber : map (soughtNumber (refusedWith (minus 3))) (0 ∷ 7 ∷ [])
+      ≡ negℤ (pos 3) ∷ negℤ (pos 3) ∷ []
+  pub soughtFound : map (soughtAt (handles (1 ∷ 3 ∷ []))) (0 ∷ 1 ∷ 2 ∷ [])
+      ≡ Found 1 ∷ Found 3 ∷ Refused (minus 4) ∷ []

@@ -1,4 +1,4 @@
--- Searching: document 01, "Searching".
+-- Searching: document 01, "Searching"; in two call editions: request E1.
 use Prim.Native.Nat.{ℕ, zero, suc, _+_, _/_, _%_, _^_}
 use mathlib.Core.Bool.{Bool, cond, _&&_, _||_}
 use mathlib.Core.List.{List, [], _∷_}
@@ -6,7 +6,10 @@ use mathlib.Core.Path.{_≡_}
 use lib.Dec.{eqb}
 use lib.IntN.{ℤ, pos}
 use Rattle.numbers.specs.Numbers.{little, bit}
-use Rattle.board.specs.Statuses.{deviceNotFound}
+use Rattle.board.specs.Statuses.{funcNotSupported, badVendorId, deviceNotFound}
+use Rattle.board.specs.declared.status.Status.{Status}
+use Rattle.call_edition.specs.Edition.{isKnown, isBadVendor, idOf, classOf}
+use Rattle.call_edition.specs.declared.edition.InEdition.{InEdition}
 use Rattle.search.specs.declared.search.Search.{Search}
 use Rattle.search.specs.declared.search.Search.the-variants.{Found, Refused}
 
@@ -56,7 +59,34 @@ searchNumber [] n = deviceNotFound .0
 searchNumber (h ∷ hs) zero = pos h
 searchNumber (h ∷ hs) (suc n) = searchNumber hs n
 
+-- what a search goes through: the handles that match, or a refusal before any function is
+-- looked at
+pub data Sought : Type 0 where
+  handles : List ℕ → Sought
+  refusedWith : Status → Sought
+
+-- in the edition that the caller names: an unknown one before all else, then vendor FFFFh of
+-- draft 1.9
+abbrev pub soughtDevices : InEdition → ℕ → (ℕ → ℕ → ℕ) → Sought
+soughtDevices id count r =
+    cond (isKnown id)
+    (cond (isBadVendor id) (refusedWith badVendorId) (handles (devices (idOf id) count r)))
+    (refusedWith funcNotSupported)
+
+abbrev pub soughtClasses : InEdition → ℕ → (ℕ → ℕ → ℕ) → Sought
+soughtClasses class count r =
+    cond (isKnown class) (handles (classes (classOf class) count r)) (refusedWith funcNotSupported)
+
+-- the answer of index n, and its number
+unfoldable pub soughtAt : Sought → ℕ → Search
+soughtAt (handles hs) n = searched hs n
+soughtAt (refusedWith status) n = Refused status
+
+unfoldable pub soughtNumber : Sought → ℕ → ℤ
+soughtNumber (handles hs) n = searchNumber hs n
+soughtNumber (refusedWith status) n = status .0
+
 -- an answer is that of index n, and has its number
-pub record Finds (hs : List ℕ) (n : ℕ) (r : Search) : Type 0 where
-  pub answer : r ≡ searched hs n
-  pub number : foundNumber r ≡ searchNumber hs n
+pub record Finds (s : Sought) (n : ℕ) (r : Search) : Type 0 where
+  pub answer : r ≡ soughtAt s n
+  pub number : foundNumber r ≡ soughtNumber s n

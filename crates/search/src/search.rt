@@ -1,11 +1,17 @@
 // The two searches, by device and by class: one walk over the functions, which passes over as many
-// matches as the index says.
+// matches as the index says. What the caller names in an edition is turned into the later text's ID
+// or class first.
 use board::handle::function_count;
 use board::layout::Header;
 use board::layout::Registers;
 use board::layout::register_byte;
 use board::layout::register_number;
 use board::status::Status;
+use call_edition::edition::InEdition;
+use call_edition::edition::class_of;
+use call_edition::edition::id_of;
+use call_edition::edition::is_bad_vendor;
+use call_edition::edition::is_known;
 use numbers::number::Width;
 ghost use mathlib.Core.Path.{_≡_};
 ghost use Rattle.board.specs.Handles.{functionCount};
@@ -14,8 +20,9 @@ ghost use Rattle.search.specs.Search.{
   deviceMatches,
   classMatches,
   matching,
-  devices,
-  classes,
+  handles,
+  soughtDevices,
+  soughtClasses,
   Finds,
 };
 ghost use Rattle.search.specs.Steps.{matches};
@@ -24,7 +31,7 @@ ghost use Rattle.search.specs.Steps.{matches};
 pub enum Search {
     // The handle found, which is the number handed back.
     Found(u32),
-    // -4, DEVICE_NOT_FOUND.
+    // -2, FUNC_NOT_SUPPORTED, -3, BAD_VENDOR_ID, or -4, DEVICE_NOT_FOUND.
     Refused(Status),
 }
 
@@ -91,8 +98,8 @@ fn matches(registers: &Registers, function: u32, wanted: Wanted) -> bool
 // The function that matches with so many matches before it.
 fn find(header: &Header, registers: &Registers, wanted: Wanted, index: u32) -> Search
     ensures { λ r. ⌜ Finds
-        (matching (λ i. matches wanted (registerByte (now (registers .entry)) i))
-        0 (functionCount (now (header .entry))))
+        (handles (matching (λ i. matches wanted (registerByte (now (registers .entry)) i))
+        0 (functionCount (now (header .entry)))))
         index r ⌝ }
 {
     let count = function_count(header);
@@ -114,23 +121,37 @@ fn find(header: &Header, registers: &Registers, wanted: Wanted, index: u32) -> S
 }
 
 // The match with so many matches before it in table order: device ID in bits 31 to 16, vendor in
-// bits 15 to 0.
-pub fn find_pci_device(header: &Header, registers: &Registers, id: u32, index: u32) -> Search
+// bits 15 to 0; in draft 1.9 the other way round, and there vendor FFFFh is refused.
+pub fn find_pci_device(header: &Header, registers: &Registers, id: InEdition, index: u32) -> Search
     ensures { λ r. ⌜ Finds
-        (devices id
+        (soughtDevices id
         (functionCount (now (header .entry))) (registerByte (now (registers .entry))))
         index r ⌝ }
 {
-    find(header, registers, Wanted::Device(id), index)
+    if !is_known(id) {
+        return Search::Refused(Status::FUNC_NOT_SUPPORTED);
+    }
+    if is_bad_vendor(id) {
+        return Search::Refused(Status::BAD_VENDOR_ID);
+    }
+    find(header, registers, Wanted::Device(id_of(id)), index)
 }
 
 // The same by class: base, sub and programming interface in bits 23 to 0; bits 26, 25 and 24 set
-// mean ignore one each, in that order.
-pub fn find_pci_classcode(header: &Header, registers: &Registers, class: u32, index: u32) -> Search
+// mean ignore one each, in that order; in draft 1.9 they play no part.
+pub fn find_pci_classcode(
+    header: &Header,
+    registers: &Registers,
+    class: InEdition,
+    index: u32,
+) -> Search
     ensures { λ r. ⌜ Finds
-        (classes class
+        (soughtClasses class
         (functionCount (now (header .entry))) (registerByte (now (registers .entry))))
         index r ⌝ }
 {
-    find(header, registers, Wanted::Class(class), index)
+    if !is_known(class) {
+        return Search::Refused(Status::FUNC_NOT_SUPPORTED);
+    }
+    find(header, registers, Wanted::Class(class_of(class)), index)
 }

@@ -1,6 +1,6 @@
 //! Boards that a caller altered.
 
-use crate::boards::ENTRIES;
+use crate::boards::{ENTRIES, OFFSET_LOW};
 use crate::parts::Parts;
 use crate::random::Random;
 use exports::REGISTERS;
@@ -9,7 +9,7 @@ use second::{BASES, FUNCTIONS, RECORD_LENGTH, WINDOWS};
 /// Alters one to three of the lent parts in a way that no call does.
 pub fn alter(random: &mut Random, parts: &mut Parts, cells: usize) {
     for _ in 0..random.within(1..=3) {
-        match random.below(14) {
+        match random.below(15) {
             0 => header(random, parts),
             1 => exponents(random, parts),
             2 => record_bytes(random, parts),
@@ -21,6 +21,7 @@ pub fn alter(random: &mut Random, parts: &mut Parts, cells: usize) {
             9 => orders_and_widths(random, parts),
             10 => longs(random, &mut parts.hooks),
             11 | 12 => hooks(random, parts),
+            13 => offsets(random, parts),
             _ => longs(random, &mut parts.used),
         }
     }
@@ -60,6 +61,13 @@ fn orders_and_widths(random: &mut Random, parts: &mut Parts) {
         parts.records[at + 1] = random.pick(&[0, 1, 2, 3, 14, 15, 16, 0x11, 0x12, 0x82, any]);
         parts.records[at + 2] =
             random.pick(&[7, bits | 7, bits | 1, bits | 2, bits | 4, bits, any]);
+    }
+}
+
+/// Offsets that are no multiples of 4, as no image has them.
+fn offsets(random: &mut Random, parts: &mut Parts) {
+    for record in parts.records.chunks_mut(RECORD_LENGTH) {
+        record[OFFSET_LOW] ^= random.below(4) as u8;
     }
 }
 

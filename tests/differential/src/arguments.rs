@@ -4,20 +4,28 @@
 use crate::access::Access;
 use crate::boards::FIRST_BASE;
 use crate::calls::Call;
+use crate::editions::call_edition;
 use crate::parts::Parts;
 use crate::random::Random;
 use exports::REGISTERS;
-use second::{BASES, FUNCTIONS, RECORD_LENGTH};
+use second::{BASES, DRAFT_1_9, FUNCTIONS, RECORD_LENGTH};
 
 /// The class code begins here, with the programming interface.
 const CLASS: usize = 0x09;
 
 pub fn search(random: &mut Random, parts: &Parts) -> Call {
-    let index = index(random, parts);
-    match random.one_in(2) {
-        true => Call::FindPciDevice { id: id(random, parts), index },
-        false => Call::FindPciClasscode { class_code: class_code(random, parts), index },
+    let (index, call_edition) = (index(random, parts), call_edition(random));
+    if random.one_in(2) {
+        let class_code = class_code(random, parts);
+        return Call::FindPciClasscode { class_code, index, call_edition };
     }
+    let id = id(random, parts);
+    // Mostly with the halves where the edition has them.
+    let id = match (call_edition == DRAFT_1_9) != random.one_in(8) {
+        true => id.rotate_left(16),
+        false => id,
+    };
+    Call::FindPciDevice { id, index, call_edition }
 }
 
 /// A configuration call; most are writes, and many of them move a window.
@@ -56,7 +64,8 @@ fn index(random: &mut Random, parts: &Parts) -> u32 {
     }
 }
 
-/// The ID of a function of the board, with another vendor or device, or with vendor FFFFh.
+/// The ID of a function of the board, with another vendor or device, or with vendor FFFFh, as
+/// the later text has it.
 fn id(random: &mut Random, parts: &Parts) -> u32 {
     let own = u32::from_le_bytes(registers_at(random, parts, 0x00));
     let (any, in_vendor, in_device) = (random.long(), random.below(16), random.within(16..=31));
@@ -67,8 +76,8 @@ fn id(random: &mut Random, parts: &Parts) -> u32 {
         5 => (own | 0xFFFF) ^ 1 << in_vendor,
         6 => own ^ 1 << in_vendor,
         7 => own ^ 1 << in_device,
-        8 => own.rotate_left(16),
-        _ => random.pick(&[own | 0xFFFF_0000, u32::MAX, 0, any]),
+        8 => own | 0xFFFF_0000,
+        _ => random.pick(&[u32::MAX, 0, any]),
     }
 }
 

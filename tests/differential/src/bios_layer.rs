@@ -102,11 +102,13 @@ impl BiosLayer {
             Call::WriteImage { out } => self.write_image(out)?,
             Call::ListWindow { n } => self.list_window(*n)?,
             Call::CheckImage { image, .. } => check_image(image)?,
-            Call::FindPciDevice { id, index } => {
-                Answer::number(reach!(pci_find_device(self.board_at(), *id, *index)).into())
+            Call::FindPciDevice { id, index, call_edition } => {
+                let board = self.board_at();
+                Answer::number(reach!(pci_find_device(board, *id, *index, *call_edition)).into())
             }
-            Call::FindPciClasscode { class_code, index } => {
-                Answer::number(reach!(pci_find_class(self.board_at(), *class_code, *index)).into())
+            Call::FindPciClasscode { class_code: class, index, call_edition } => {
+                let board = self.board_at();
+                Answer::number(reach!(pci_find_class(board, *class, *index, *call_edition)).into())
             }
             Call::ReadConfig(access) => self.read_config(*access)?,
             Call::FastReadConfig(access) => self.fast_read_config(*access)?,
@@ -187,7 +189,7 @@ impl BiosLayer {
     }
 
     fn read_data(&mut self, access: DataAccess) -> Result<Answer, String> {
-        let DataAccess { io, width, handle, address, lent } = access;
+        let DataAccess { io, width, handle, address, call_edition, lent } = access;
         let mut value = Guarded::new(UNSET);
         let number = reach!(pci_read_data(
             self.board_at(),
@@ -197,6 +199,7 @@ impl BiosLayer {
             width,
             handle,
             address,
+            call_edition,
             &raw mut value.value,
         ));
         kept(value.intact(), "value")?;
@@ -204,7 +207,7 @@ impl BiosLayer {
     }
 
     fn fast_read_data(&mut self, access: DataAccess) -> Result<Answer, String> {
-        let DataAccess { io, width, handle, address, lent } = access;
+        let DataAccess { io, width, handle, address, call_edition, lent } = access;
         let mut fault = Guarded::new(UNSET as c_int);
         let value = reach!(pci_fast_read_data(
             self.board_at(),
@@ -214,6 +217,7 @@ impl BiosLayer {
             width,
             handle,
             address,
+            call_edition,
             &raw mut fault.value,
         ));
         kept(fault.intact(), "fault flag")?;
@@ -221,7 +225,7 @@ impl BiosLayer {
     }
 
     fn write_data(&mut self, access: DataAccess, value: u32) -> Answer {
-        let DataAccess { io, width, handle, address, lent } = access;
+        let DataAccess { io, width, handle, address, call_edition, lent } = access;
         let number = reach!(pci_write_data(
             self.board_at(),
             self.cells_at(),
@@ -231,6 +235,7 @@ impl BiosLayer {
             handle,
             address,
             value,
+            call_edition,
         ));
         Answer::number(number.into())
     }

@@ -119,11 +119,23 @@ fn header(random: &mut Random) -> Record {
         }
     }
     record[0x04] = random.pick(&[3, 3, 3, 3, 1, 2, 0, 0xFF, 0xFC]);
-    if random.one_in(6) {
-        record[OFFSET].copy_from_slice(&LAST_OFFSET.to_be_bytes());
+    // A device like any other in draft 1.9, whose vendors end at FFFEh.
+    if random.one_in(8) {
+        record[0x02..0x04].fill(0xFF);
+    }
+    if random.one_in(2) {
+        let offset = offset(random);
+        record[OFFSET].copy_from_slice(&offset.to_be_bytes());
     }
     keep_rules(&mut record);
     record
+}
+
+/// The last offset, any, or one about a window's length, by which a CPU address may be the bus
+/// address of another cell.
+fn offset(random: &mut Random) -> u32 {
+    let (any, near) = (random.long(), 1 << random.within(2..=10));
+    random.pick(&[LAST_OFFSET, any, near, near.wrapping_neg()])
 }
 
 /// Makes a record one that keeps the rules and has no windows.

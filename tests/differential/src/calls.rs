@@ -29,10 +29,12 @@ pub enum Call {
     FindPciDevice {
         id: u32,
         index: u32,
+        call_edition: u32,
     },
     FindPciClasscode {
         class_code: u32,
         index: u32,
+        call_edition: u32,
     },
     ReadConfig(Access),
     FastReadConfig(Access),
@@ -104,9 +106,9 @@ impl fmt::Display for Call {
             Call::CheckImage { image, room } => {
                 write!(f, "{name} of {} bytes, room {room}", image.len())
             }
-            Call::FindPciDevice { id: key, index }
-            | Call::FindPciClasscode { class_code: key, index } => {
-                write!(f, "{name} {key:#x}, index {index}")
+            Call::FindPciDevice { id: key, index, call_edition }
+            | Call::FindPciClasscode { class_code: key, index, call_edition } => {
+                write!(f, "{name} {key:#x}, index {index}, edition {call_edition:#x}")
             }
             Call::ReadConfig(access) | Call::FastReadConfig(access) => {
                 write!(f, "{name}, {access}")

@@ -3,7 +3,7 @@
 
 use crate::calls::Answer;
 use crate::chain_calls::ChainCall;
-use crate::chain_history::History;
+use crate::history::History;
 use crate::met::Met;
 use crate::parts::Parts;
 use crate::used_met;

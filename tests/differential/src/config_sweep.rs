@@ -1,5 +1,5 @@
 //! Configuration calls and searches on two boards: every register at every width, and
-//! every ID and class one bit off those of the board.
+//! every ID and class one bit off those of the board, in both editions.
 
 use crate::access::Access;
 use crate::boards::{clear_base, ENTRIES, FIXED, MASKS};
@@ -10,7 +10,7 @@ use crate::random::Random;
 use crate::tally::Tally;
 use exports::REGISTERS;
 use second::board_b1::{b1_image, image_of, plain_record, set_window, Shape};
-use second::{Record, BASES};
+use second::{Record, BASES, DRAFT_1_9, LATER_TEXT};
 
 /// The widths that there are, and some that are refused.
 const WIDTHS: [u32; 6] = [1, 2, 4, 0, 3, 5];
@@ -86,33 +86,38 @@ impl<'a> Loaded<'a> {
             let id = u32::from_le_bytes([header[0], header[1], header[2], header[3]]);
             let class = u32::from_le_bytes([header[0x09], header[0x0A], header[0x0B], 0]);
             for index in [0, 1, 2, 3, 65_536, 65_537, u32::MAX] {
-                self.devices(id, index)?;
-                self.devices(id | 0xFFFF, index)?;
+                for id in [id, id | 0xFFFF] {
+                    self.devices(id, index, LATER_TEXT)?;
+                    self.devices(id, index, DRAFT_1_9)?;
+                    self.devices(id.rotate_left(16), index, DRAFT_1_9)?;
+                }
             }
             for index in 0..=3 {
-                self.classes(class, index)?;
+                self.classes(class, index, LATER_TEXT)?;
+                self.classes(class, index, DRAFT_1_9)?;
             }
         }
         Ok(())
     }
 
     /// The ID as it is and with each bit changed.
-    fn devices(&mut self, id: u32, index: u32) -> Result<(), String> {
-        self.call(Call::FindPciDevice { id, index })?;
+    fn devices(&mut self, id: u32, index: u32, call_edition: u32) -> Result<(), String> {
+        self.call(Call::FindPciDevice { id, index, call_edition })?;
         for bit in 0..32 {
-            self.call(Call::FindPciDevice { id: id ^ 1 << bit, index })?;
+            let id = id ^ 1 << bit;
+            self.call(Call::FindPciDevice { id, index, call_edition })?;
         }
         Ok(())
     }
 
     /// The class as it is and with each bit changed, under each set of bits 24 to 31.
-    fn classes(&mut self, class: u32, index: u32) -> Result<(), String> {
+    fn classes(&mut self, class: u32, index: u32, call_edition: u32) -> Result<(), String> {
         for bits in 0..=255 {
             let class_code = class | bits << 24;
-            self.call(Call::FindPciClasscode { class_code, index })?;
+            self.call(Call::FindPciClasscode { class_code, index, call_edition })?;
             for bit in 0..24 {
                 let class_code = class_code ^ 1 << bit;
-                self.call(Call::FindPciClasscode { class_code, index })?;
+                self.call(Call::FindPciClasscode { class_code, index, call_edition })?;
             }
         }
         Ok(())
@@ -120,7 +125,8 @@ impl<'a> Loaded<'a> {
 }
 
 /// Three functions with mixed masks. Each has one more command bit that no write changes,
-/// and windows that meet another's or end at 2^32; IDs and classes differ in one byte.
+/// and windows that meet another's or end at 2^32; classes differ in one byte, and one device
+/// is FFFFh.
 fn mixed_records() -> [Record; 3] {
     let mut random = Random::new(1);
     let mut records = [plain_record(); 3];
@@ -135,7 +141,7 @@ fn mixed_records() -> [Record; 3] {
     }
     records[1][0x09] = 0x01;
     records[2][0x0B] = 0x10;
-    records[2][0x02] = 0x02;
+    records[2][0x02..0x04].fill(0xFF);
     let windows = [
         (0, 0, 0x8000_0000, 10),
         (0, 3, 0x8000_0400, 8),

@@ -4,10 +4,11 @@
 use crate::access::DataAccess;
 use crate::arguments::{handle, lent, width};
 use crate::calls::Call;
+use crate::editions::call_edition;
 use crate::model::Second;
 use crate::parts::Parts;
 use crate::random::Random;
-use second::{KeptWindow, RECORD_LENGTH, WINDOWS};
+use second::{KeptWindow, DRAFT_1_9, FUNCTIONS, LATER_TEXT, RECORD_LENGTH, WINDOWS};
 
 /// The offset of a record.
 const OFFSET: usize = 536;
@@ -20,6 +21,24 @@ pub fn data(random: &mut Random, second: &Second) -> Call {
         1 => Call::FastReadData(access),
         _ => Call::WriteData { access, value: value(random) },
     }
+}
+
+/// A read in the other edition of what a data write names; none where it names an edition that
+/// there is not, or is none.
+pub fn read_back(random: &mut Random, parts: &Parts, call: &Call) -> Option<Call> {
+    let Call::WriteData { access, .. } = *call else {
+        return None;
+    };
+    let other = match access.call_edition {
+        DRAFT_1_9 => LATER_TEXT,
+        LATER_TEXT => DRAFT_1_9,
+        _ => return None,
+    };
+    let access = access.said_in(other, offset(parts, access.handle));
+    Some(match random.one_in(2) {
+        true => Call::ReadData(access),
+        false => Call::FastReadData(access),
+    })
 }
 
 /// A conversion of an address: any, or one about where the sum or difference wraps.
@@ -50,24 +69,43 @@ fn access(random: &mut Random, second: &Second) -> DataAccess {
     let (parts, whole) = (&second.parts, second.cells.len());
     let window = window(random, parts);
     let width = width(random);
-    let address = address(random, window);
+    let bus = address(random, window);
     // Mostly an address that the width allows.
-    let address = match (width, random.one_in(8)) {
-        (2, false) => address & !1,
-        (4, false) => address & !3,
-        _ => address,
+    let bus = match (width, random.one_in(8)) {
+        (2, false) => bus & !1,
+        (4, false) => bus & !3,
+        _ => bus,
     };
     let handle = match random.below(8) {
         0 => handle(random, parts),
         _ => window.handle,
     };
     let total = parts.cell_offsets[WINDOWS] as usize;
+    let call_edition = call_edition(random);
     DataAccess {
         io: io(random, window.io),
         width,
         handle,
-        address,
+        address: bus.wrapping_add(added(random, parts, handle, call_edition)),
+        call_edition,
         lent: lent(random, whole, total),
+    }
+}
+
+/// What is added to a bus address to name it: mostly what the edition asks for, else what the
+/// other asks for, or what another function's offset makes of it.
+fn added(random: &mut Random, parts: &Parts, handle: u32, call_edition: u32) -> u32 {
+    let own = offset(parts, handle);
+    let another = offset(parts, random.within(1..=FUNCTIONS) as u32);
+    let (right, wrong) = match call_edition {
+        DRAFT_1_9 => (own, 0),
+        LATER_TEXT => (0, own),
+        _ => (random.pick(&[0, own]), 0),
+    };
+    match random.below(10) {
+        0 => wrong,
+        1 => another,
+        _ => right,
     }
 }
 

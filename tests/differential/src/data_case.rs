@@ -3,14 +3,18 @@
 
 use crate::access::DataAccess;
 use crate::boards::ENTRIES;
+use crate::data_arguments::offset;
 use crate::data_model;
 use crate::parts::Parts;
-use second::{KeptWindow, BASES, RECORD_LENGTH, WINDOWS};
+use second::{Board, KeptWindow, BASES, RECORD_LENGTH, WINDOWS};
 
 pub struct DataCase<'a> {
     parts: &'a Parts,
+    board: &'a Board,
     pub cells: &'a [u8],
     pub access: DataAccess,
+    /// The bus address that it names.
+    pub bus: u32,
     /// The place of its width among 1, 2 and 4.
     pub width: usize,
     /// The number of the plain read; a write of the same has it too, and a fast read none.
@@ -23,16 +27,22 @@ pub fn has_entry(window: &KeptWindow) -> bool {
 }
 
 impl<'a> DataCase<'a> {
-    /// A call of any width but 1, 2 and 4 is none.
-    pub fn new(parts: &'a Parts, cells: &'a [u8], access: DataAccess) -> Option<Self> {
+    /// A call of any width but 1, 2 and 4 is none. The board is that of the parts.
+    pub fn new(
+        parts: &'a Parts,
+        board: &'a Board,
+        cells: &'a [u8],
+        access: DataAccess,
+    ) -> Option<Self> {
         let width = [1, 2, 4].iter().position(|&width| width == access.width)?;
-        let number = data_model::read(&parts.board(), cells, access).number;
-        Some(DataCase { parts, cells, access, width, number })
+        let bus = access.bus(offset(parts, access.handle));
+        let number = data_model::read(board, cells, access).number;
+        Some(DataCase { parts, board, cells, access, bus, width, number })
     }
 
     /// The number of another call on the same.
     pub fn number_of(&self, access: DataAccess) -> i64 {
-        data_model::read(&self.parts.board(), self.cells, access).number
+        data_model::read(self.board, self.cells, access).number
     }
 
     pub fn lent(&self) -> u64 {
@@ -44,7 +54,7 @@ impl<'a> DataCase<'a> {
     }
 
     pub fn aligned(&self) -> bool {
-        self.access.address.is_multiple_of(self.access.width)
+        self.bus.is_multiple_of(self.access.width)
     }
 
     /// The windows of the list in the call's space.
@@ -54,7 +64,7 @@ impl<'a> DataCase<'a> {
         windows
     }
 
-    /// Those of its handle that hold its address.
+    /// Those of its handle that hold its bus address.
     pub fn holding(&self) -> Vec<KeptWindow> {
         let mut windows = self.parts.listed();
         windows.retain(|window| self.is_held_by(window));
@@ -72,8 +82,8 @@ impl<'a> DataCase<'a> {
     }
 
     fn is_held_by(&self, window: &KeptWindow) -> bool {
-        let DataAccess { handle, address, .. } = self.access;
-        self.is_in_space(window) && window.handle == handle && window.holds(address)
+        let handle = self.access.handle;
+        self.is_in_space(window) && window.handle == handle && window.holds(self.bus)
     }
 
     /// The one that is taken.
@@ -113,11 +123,11 @@ impl<'a> DataCase<'a> {
         four.is_some_and(|four| (1..4).all(|i| !four[..i].contains(&four[i])))
     }
 
-    /// The cell at the address's distance into the taken window, moved.
+    /// The cell at the bus address's distance into the taken window, moved.
     fn cell(&self, moved: impl Fn(u32) -> u32) -> Option<u64> {
         let window = self.taken()?;
         let slot = BASES * (window.handle as usize).checked_sub(1)? + window.base as usize;
-        let distance = moved(self.access.address - window.start);
+        let distance = moved(self.bus - window.start);
         Some(u64::from(*self.parts.cell_offsets.get(slot)?) + u64::from(distance))
     }
 }

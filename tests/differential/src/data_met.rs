@@ -1,13 +1,15 @@
-//! What a data call or a conversion met beside the number of its answer.
+//! What a data call or a conversion met beside the number of its answer; of the editions that
+//! data calls name, see edition_met.rs.
 
 use crate::access::DataAccess;
 use crate::boards::LAST_OFFSET;
 use crate::calls::{Answer, Call};
 use crate::data_arguments::offset;
 use crate::data_case::{has_entry, DataCase};
+use crate::editions::is_known;
 use crate::met::Met;
 use crate::parts::Parts;
-use second::KeptWindow;
+use second::{KeptWindow, LATER_TEXT};
 
 /// By width: 1, 2, 4.
 macro_rules! by_width {
@@ -104,9 +106,13 @@ pub fn all() -> impl Iterator<Item = &'static str> {
 
 /// What a call met that left the parts as they were, and these cells.
 pub fn met(call: &Call, answer: &Answer, parts: &Parts, cells: &[u8]) -> Met {
-    let data = |access, names, other_width| match DataCase::new(parts, cells, access) {
-        Some(case) => data(&case, names),
-        None => vec![(other_width, true)],
+    let data = |access: DataAccess, names, other_width| {
+        let board = parts.board();
+        match DataCase::new(parts, &board, cells, access) {
+            _ if !is_known(access.call_edition) => Met::new(),
+            Some(case) => data(&case, names),
+            None => vec![(other_width, true)],
+        }
     };
     match call {
         Call::ReadData(access) => data(*access, &READS, OTHER_WIDTHS[0]),
@@ -114,9 +120,8 @@ pub fn met(call: &Call, answer: &Answer, parts: &Parts, cells: &[u8]) -> Met {
         Call::FastReadData(access) => {
             let mut met = data(*access, &FAST_READS, OTHER_WIDTHS[1]);
             let fillers = FILLERS.into_iter().zip([1, 2, 4]);
-            met.extend(
-                fillers.map(|(what, width)| (what, answer.number == 1 && access.width == width)),
-            );
+            let refused = answer.number == 1 && is_known(access.call_edition);
+            met.extend(fillers.map(|(what, width)| (what, refused && access.width == width)));
             met
         }
         Call::BusToCpu { handle, address } if answer.number == 0 => {
@@ -160,7 +165,7 @@ fn accepted(case: &DataCase, names: &[[&'static str; 3]; 5]) -> Met {
         (names[order][case.width], case.tells_orders()),
         (JUST_ENOUGH, case.lent() == case.total() && case.access.lent < case.cells.len()),
         (IO_NUMBER, case.access.io > 1),
-        (LAST_ADDRESS, case.access.address == u32::MAX),
+        (LAST_ADDRESS, case.bus == u32::MAX),
         (WIDTHS_ABOVE, widths > 7),
         (NO_EXPONENT, !(2..=16).contains(&k)),
     ]
@@ -196,15 +201,15 @@ fn nowhere(case: &DataCase) -> Met {
     ]
 }
 
-/// Whether the address is the first past a window of the handle, and the handle of another
+/// Whether the bus address is the first past a window of the handle, and the handle of another
 /// window would be let in.
 fn into_neighbour(case: &DataCase) -> bool {
-    let DataAccess { handle, address, .. } = case.access;
+    let (handle, bus) = (case.access.handle, case.bus);
     let windows = case.windows();
-    let own_ends = |window: &KeptWindow| window.handle == handle && window.end() == address.into();
+    let own_ends = |window: &KeptWindow| window.handle == handle && window.end() == bus.into();
+    let by = DataAccess { address: bus, call_edition: LATER_TEXT, ..case.access };
     let lets_in = |window: &KeptWindow| {
-        window.holds(address)
-            && case.number_of(DataAccess { handle: window.handle, ..case.access }) == 0
+        window.holds(bus) && case.number_of(DataAccess { handle: window.handle, ..by }) == 0
     };
     windows.iter().any(own_ends) && windows.iter().any(lets_in)
 }
@@ -232,8 +237,14 @@ mod tests {
     use second::board_b1::b1_image;
 
     const CELLS: usize = 4096;
-    const FIRST: DataAccess =
-        DataAccess { io: 0, width: 4, handle: 1, address: 0x8000_0000, lent: CELLS };
+    const FIRST: DataAccess = DataAccess {
+        io: 0,
+        width: 4,
+        handle: 1,
+        address: 0x8000_0000,
+        call_edition: LATER_TEXT,
+        lent: CELLS,
+    };
 
     /// The byte order of B1's first window; its widths follow.
     const ENTRY_ORDER: usize = 513;
@@ -271,7 +282,7 @@ mod tests {
         assert_eq!(read(&mut b1, DataAccess { lent: 2063, ..FIRST }), [ONE_LESS]);
         assert_eq!(read(&mut b1, DataAccess { lent: 9, address: 1, ..FIRST }), [TOO_SHORT]);
         assert_eq!(read(&mut b1, DataAccess { lent: 9, handle: 3, ..FIRST }), [BAD_HANDLE]);
-        let io = DataAccess { io: 2, width: 1, handle: 2, address: 0x100, lent: CELLS };
+        let io = DataAccess { io: 2, width: 1, handle: 2, address: 0x100, ..FIRST };
         assert_eq!(read(&mut b1, io), [IO_NUMBER]);
         assert_eq!(read(&mut b1, DataAccess { width: 2, ..io }), [NOT_OFFERED[1]]);
         assert_eq!(read(&mut b1, DataAccess { width: 3, ..io }), [OTHER_WIDTHS[0]]);

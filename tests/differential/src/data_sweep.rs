@@ -1,28 +1,37 @@
 //! Data calls on two boards: every address of every window and those beside it, at every
-//! width, through every handle and in both spaces.
+//! width, through every handle and in both spaces; with offsets in both editions.
 
 use crate::access::DataAccess;
-use crate::boards::ENTRIES;
+use crate::boards::{ENTRIES, LAST_OFFSET, OFFSET, OFFSET_LOW};
 use crate::calls::Call;
+use crate::data_arguments::offset;
 use crate::pair::Pair;
 use crate::tally::Tally;
 use second::board_b1::{b1_image, image_of, plain_record, set_window, Shape};
-use second::{Record, BASES, RECORD_LENGTH};
+use second::{Record, BASES, DRAFT_1_9, LATER_TEXT, RECORD_LENGTH};
 use std::collections::BTreeSet;
 
 /// The widths that there are, and one that is refused.
 const WIDTHS: [u32; 4] = [1, 2, 4, 3];
 /// Enough for both boards, and more.
 const CELLS: usize = 2100;
+const LATER: &[u32] = &[LATER_TEXT];
+const BOTH: &[u32] = &[LATER_TEXT, DRAFT_1_9];
 
 pub fn sweep(tally: &mut Tally) -> Result<(), String> {
     for (name, image) in [("B1", b1_image()), ("board of orders", image_of(&order_records()))] {
         let mut board = Loaded::new(image, tally)?;
-        board.addresses().map_err(|difference| format!("{name}, {difference}"))?;
+        board.addresses(LATER).map_err(|difference| format!("{name}, {difference}"))?;
     }
     let mut board = Loaded::new(image_of(&order_records()), tally)?;
     board.alter_orders();
-    board.addresses().map_err(|difference| format!("board of altered orders, {difference}"))
+    board
+        .addresses(LATER)
+        .map_err(|difference| format!("board of altered orders, {difference}"))?;
+    let mut board = Loaded::new(image_of(&offset_records()), tally)?;
+    board.addresses(BOTH).map_err(|difference| format!("board of offsets, {difference}"))?;
+    board.alter_offsets();
+    board.addresses(BOTH).map_err(|difference| format!("board of altered offsets, {difference}"))
 }
 
 /// Both implementations with a board loaded.
@@ -50,8 +59,17 @@ impl<'a> Loaded<'a> {
         });
     }
 
-    /// From one before each window to one past it.
-    fn addresses(&mut self) -> Result<(), String> {
+    /// Gives every function an offset that is no multiple of 4, or of 2.
+    fn alter_offsets(&mut self) {
+        self.pair.change_parts(|parts| {
+            for (record, bits) in parts.records.chunks_mut(RECORD_LENGTH).zip(1..=3) {
+                record[OFFSET_LOW] ^= bits;
+            }
+        });
+    }
+
+    /// The bus addresses from one before each window to one past it.
+    fn addresses(&mut self, editions: &[u32]) -> Result<(), String> {
         let mut addresses = BTreeSet::new();
         for window in self.pair.parts().listed() {
             let first = window.start.wrapping_sub(1);
@@ -59,17 +77,28 @@ impl<'a> Loaded<'a> {
         }
         for address in addresses {
             for width in WIDTHS {
-                self.handles_and_spaces(address, width)?;
+                for &call_edition in editions {
+                    self.handles_and_spaces(address, width, call_edition)?;
+                }
             }
         }
         Ok(())
     }
 
-    /// Every handle of the board, and the bad ones before and after.
-    fn handles_and_spaces(&mut self, address: u32, width: u32) -> Result<(), String> {
+    /// Every handle of the board, and the bad ones before and after, at a bus address as the
+    /// edition names it.
+    fn handles_and_spaces(
+        &mut self,
+        address: u32,
+        width: u32,
+        call_edition: u32,
+    ) -> Result<(), String> {
         for handle in 0..=self.pair.parts().functions() as u32 + 1 {
+            let offset = offset(self.pair.parts(), handle);
             for io in [0, 1] {
-                self.access(DataAccess { io, width, handle, address, lent: CELLS })?;
+                let (lent, later) = (CELLS, LATER_TEXT);
+                let bus = DataAccess { io, width, handle, address, call_edition: later, lent };
+                self.access(bus.said_in(call_edition, offset))?;
             }
         }
         Ok(())
@@ -113,6 +142,16 @@ fn order_records() -> [Record; 3] {
     let mut records = [plain_record(); 3];
     for (place, base, register, k, order, widths) in windows {
         set_window(&mut records[place], base, Shape { register, k, order, widths });
+    }
+    records
+}
+
+/// The same with offsets by which every CPU address wraps, none does but at the end, or all lie a
+/// little lower: there bus addresses of one window are CPU addresses of others.
+fn offset_records() -> [Record; 3] {
+    let mut records = order_records();
+    for (record, offset) in records.iter_mut().zip([0x8000_0000, 0x10, LAST_OFFSET]) {
+        record[OFFSET].copy_from_slice(&offset.to_be_bytes());
     }
     records
 }

@@ -1,35 +1,43 @@
 //! The proved code behind the C layer of host/pci_driver.h; what it has no call for goes
 //! through host/pci_bios.h to the same board. The numbers of handlers, parameters and
-//! call-backs are handed over as pointers and must come back.
+//! call-backs are handed over as pointers and must come back. Calls of draft 1.9 are made by
+//! draft_layer.rs, every other one by the table of host/pci_cookie.h.
 
 use crate::access::{Access, DataAccess};
 use crate::bios_layer::{self, BiosLayer};
 use crate::calls::{Answer, Call};
 use crate::chain_calls::ChainCall;
+use crate::draft_layer;
+use crate::editions::{is_known, named};
 use crate::guards::Guarded;
 use crate::host_functions::*;
 use crate::host_reached::{reach, settle};
 use crate::parts::Parts;
 use crate::proved::{kept, UNSET};
 use crate::script_compose::some_width;
-use second::{BASES, DESCRIPTOR_LENGTH};
+use second::{BASES, DESCRIPTOR_LENGTH, DRAFT_1_9};
 use std::ptr;
 
 /// The buffer for descriptors that the layer has for each handle.
 const DESCRIPTORS: usize = BASES * DESCRIPTOR_LENGTH;
 
 /// The call as the layer can make it, with as many cells as it was given: its names say
-/// space and width, an index has 16 bits, and no status is above 3.
+/// space, width and edition, an index has 16 bits, and no status is above 3.
 pub fn said(call: &Call, cells: usize) -> Option<Call> {
     let configuration = |access: Access| Access { width: some_width(access.width), ..access };
     let data = |access: DataAccess| {
         let (io, width) = (access.io.min(1), some_width(access.width));
-        DataAccess { io, width, lent: cells, ..access }
+        let call_edition = some_edition(access.call_edition);
+        DataAccess { io, width, call_edition, lent: cells, ..access }
     };
     Some(match *call {
-        Call::FindPciDevice { id, index } => Call::FindPciDevice { id, index: index & 0xFFFF },
-        Call::FindPciClasscode { class_code, index } => {
-            Call::FindPciClasscode { class_code, index: index & 0xFFFF }
+        Call::FindPciDevice { id, index, call_edition } => {
+            let (index, call_edition) = (index & 0xFFFF, some_edition(call_edition));
+            Call::FindPciDevice { id, index, call_edition }
+        }
+        Call::FindPciClasscode { class_code, index, call_edition } => {
+            let (index, call_edition) = (index & 0xFFFF, some_edition(call_edition));
+            Call::FindPciClasscode { class_code, index, call_edition }
         }
         Call::ReadConfig(access) => Call::ReadConfig(configuration(access)),
         Call::FastReadConfig(access) => Call::FastReadConfig(configuration(access)),
@@ -47,6 +55,13 @@ pub fn said(call: &Call, cells: usize) -> Option<Call> {
         }
         _ => return bios_layer::said(call),
     })
+}
+
+fn some_edition(call_edition: u32) -> u32 {
+    match is_known(call_edition) {
+        true => call_edition,
+        false => 1 + call_edition % 2,
+    }
 }
 
 /// An answer as the layer shows it: a fast read without its flag, and a status in place of
@@ -77,6 +92,8 @@ pub fn without_tokens(parts: &Parts) -> Parts {
 
 pub struct DriverLayer {
     bios: BiosLayer,
+    /// Whether the next call of draft 1.9 is made by its entry in the table.
+    by_entry: bool,
 }
 
 impl Drop for DriverLayer {
@@ -87,7 +104,7 @@ impl Drop for DriverLayer {
 
 impl DriverLayer {
     pub fn new(parts: &Parts, cells: &[u8]) -> Self {
-        let mut layer = DriverLayer { bios: BiosLayer::new(parts, cells) };
+        let mut layer = DriverLayer { bios: BiosLayer::new(parts, cells), by_entry: false };
         layer.use_board();
         layer
     }
@@ -129,8 +146,11 @@ impl DriverLayer {
 
     pub fn perform(&mut self, call: &Call) -> Result<Answer, String> {
         let answer = match *call {
-            Call::FindPciDevice { id, index } => found(reach!(find_pci_device(id, index as u16))),
-            Call::FindPciClasscode { class_code, index } => {
+            _ if named(call) == Some(DRAFT_1_9) => self.draft(call)?,
+            Call::FindPciDevice { id, index, .. } => {
+                found(reach!(find_pci_device(id, index as u16)))
+            }
+            Call::FindPciClasscode { class_code, index, .. } => {
                 found(reach!(find_pci_classcode(class_code, index as u16)))
             }
             Call::ReadConfig(access) => read_config(access)?,
@@ -144,6 +164,11 @@ impl DriverLayer {
             _ => self.bios.perform(call)?,
         };
         self.bios.intact().map(|()| answer)
+    }
+
+    fn draft(&mut self, call: &Call) -> Result<Answer, String> {
+        self.by_entry = !self.by_entry;
+        draft_layer::perform(self.by_entry.then(draft_layer::table), call)
     }
 }
 

@@ -1,5 +1,5 @@
-//! The functions of host/pci_bios.h and host/pci_driver.h, which build.rs links, and the
-//! recorder of host/pci_record.h. A board is the lent parts in a row.
+//! The functions of host/pci_bios.h and host/pci_driver.h, which build.rs links, the table of
+//! host/pci_cookie.h and the recorder of host/pci_record.h. A board is the lent parts in a row.
 
 use crate::parts::Parts;
 use std::ffi::{c_int, c_uint, c_void};
@@ -45,6 +45,7 @@ pub struct HostCall {
     pub handle: u32,
     pub a: u32,
     pub b: u32,
+    pub c: u32,
     pub own: HostLent,
     pub cells: *const HostLent,
 }
@@ -84,8 +85,13 @@ extern "C" {
     pub fn pci_reset(board: *mut Parts, cells: *mut u8, cells_length: usize) -> i32;
     pub fn pci_write_image(board: *const Parts, out: *mut u8, length: usize) -> i32;
     pub fn pci_list_window(board: *const Parts, n: u32, window: *mut HostWindow) -> i32;
-    pub fn pci_find_device(board: *const Parts, id: u32, index: u32) -> i32;
-    pub fn pci_find_class(board: *const Parts, class_code: u32, index: u32) -> i32;
+    pub fn pci_find_device(board: *const Parts, id: u32, index: u32, call_edition: u32) -> i32;
+    pub fn pci_find_class(
+        board: *const Parts,
+        class_code: u32,
+        index: u32,
+        call_edition: u32,
+    ) -> i32;
     pub fn pci_read_config(
         board: *const Parts,
         width: c_uint,
@@ -115,6 +121,7 @@ extern "C" {
         width: c_uint,
         handle: u32,
         address: u32,
+        call_edition: u32,
         value: *mut u32,
     ) -> i32;
     pub fn pci_fast_read_data(
@@ -125,6 +132,7 @@ extern "C" {
         width: c_uint,
         handle: u32,
         address: u32,
+        call_edition: u32,
         fault: *mut c_int,
     ) -> u32;
     pub fn pci_write_data(
@@ -136,6 +144,7 @@ extern "C" {
         handle: u32,
         address: u32,
         value: u32,
+        call_edition: u32,
     ) -> i32;
     pub fn pci_bus_to_cpu(board: *const Parts, handle: u32, address: u32, cpu: *mut u32) -> i32;
     pub fn pci_cpu_to_bus(board: *const Parts, handle: u32, address: u32, bus: *mut u32) -> i32;
@@ -215,4 +224,60 @@ extern "C" {
     pub fn fast_read_io_byte(handle: i32, address: u32) -> u8;
     pub fn fast_read_io_word(handle: i32, address: u32) -> u16;
     pub fn fast_read_io_longword(handle: i32, address: u32) -> u32;
+}
+
+extern "C" {
+    pub fn draft_find_pci_device(id: u32, index: u16) -> i32;
+    pub fn draft_find_pci_classcode(classcode: u32, index: u16) -> i32;
+    pub fn draft_read_mem_byte(handle: i32, address: u32, data: *mut u8) -> i32;
+    pub fn draft_read_mem_word(handle: i32, address: u32, data: *mut u16) -> i32;
+    pub fn draft_read_mem_longword(handle: i32, address: u32, data: *mut u32) -> i32;
+    pub fn draft_write_mem_byte(handle: i32, address: u32, data: *const u8) -> i32;
+    pub fn draft_write_mem_word(handle: i32, address: u32, data: *const u16) -> i32;
+    pub fn draft_write_mem_longword(handle: i32, address: u32, data: *const u32) -> i32;
+    pub fn draft_read_io_byte(handle: i32, address: u32, data: *mut u8) -> i32;
+    pub fn draft_read_io_word(handle: i32, address: u32, data: *mut u16) -> i32;
+    pub fn draft_read_io_longword(handle: i32, address: u32, data: *mut u32) -> i32;
+    pub fn draft_write_io_byte(handle: i32, address: u32, data: *const u8) -> i32;
+    pub fn draft_write_io_word(handle: i32, address: u32, data: *const u16) -> i32;
+    pub fn draft_write_io_longword(handle: i32, address: u32, data: *const u32) -> i32;
+    pub fn draft_fast_read_mem_byte(handle: i32, address: u32) -> u8;
+    pub fn draft_fast_read_mem_word(handle: i32, address: u32) -> u16;
+    pub fn draft_fast_read_mem_longword(handle: i32, address: u32) -> u32;
+    pub fn draft_fast_read_io_byte(handle: i32, address: u32) -> u8;
+    pub fn draft_fast_read_io_word(handle: i32, address: u32) -> u16;
+    pub fn draft_fast_read_io_longword(handle: i32, address: u32) -> u32;
+    pub fn pci_find_cookie(name: u32) -> *const EntryPoints;
+}
+
+/// The name of the cookie, "_PCI".
+pub const COOKIE: u32 = u32::from_be_bytes(*b"_PCI");
+
+type Search = unsafe extern "C" fn(u32, u16) -> i32;
+type Read<T> = unsafe extern "C" fn(i32, u32, *mut T) -> i32;
+type Write<T> = unsafe extern "C" fn(i32, u32, *const T) -> i32;
+
+/// `struct pci_entry_points`, in the order of document 000; of entries that are alike in both
+/// texts only how many there are.
+#[repr(C)]
+pub struct EntryPoints {
+    sub_cookie_jar: Pointer,
+    pub version: u32,
+    pub find_pci_device: Search,
+    pub find_pci_classcode: Search,
+    configuration: [Pointer; 9],
+    interrupts_to_used: [Pointer; 8],
+    pub read_mem_byte: Read<u8>,
+    pub read_mem_word: Read<u16>,
+    pub read_mem_longword: Read<u32>,
+    pub write_mem_byte: Write<u8>,
+    pub write_mem_word: Write<u16>,
+    pub write_mem_longword: Write<u32>,
+    pub read_io_byte: Read<u8>,
+    pub read_io_word: Read<u16>,
+    pub read_io_longword: Read<u32>,
+    pub write_io_byte: Write<u8>,
+    pub write_io_word: Write<u16>,
+    pub write_io_longword: Write<u32>,
+    not_modelled: [Pointer; 3],
 }

@@ -15,7 +15,7 @@ struct Told {
     width: u32,
     io: u32,
     register: u8,
-    numbers: [u32; 3],
+    numbers: [u32; 4],
     own: usize,
     cells: Option<usize>,
 }
@@ -48,7 +48,7 @@ unsafe extern "C" fn on_call(call: *const HostCall) {
         width: call.width,
         io: call.io as u32,
         register: call.register,
-        numbers: [call.handle, call.a, call.b],
+        numbers: [call.handle, call.a, call.b, call.c],
         own: call.own.length,
         cells: cells.map(|cells| cells.length),
     };
@@ -107,14 +107,14 @@ fn expected_call(call: &Call, by_driver: bool) -> Told {
 
 /// The driver's layer hands the handle to the board where a driver has pointers, and its
 /// names have a written value's own width.
-fn with_tokens(call: &Call, [handle, a, b]: [u32; 3]) -> [u32; 3] {
+fn with_tokens(call: &Call, [handle, a, b, c]: [u32; 4]) -> [u32; 4] {
     let cut = |value: u32, width| value & (u32::MAX >> (32 - 8 * width));
     match call {
-        Call::Chain(ChainCall::Hook { .. }) => [handle, handle, handle],
-        Call::Chain(ChainCall::SetUsed { .. }) => [handle, a, handle],
-        Call::WriteConfig { access, .. } => [handle, cut(a, access.width), b],
-        Call::WriteData { access, .. } => [handle, a, cut(b, access.width)],
-        _ => [handle, a, b],
+        Call::Chain(ChainCall::Hook { .. }) => [handle, handle, handle, c],
+        Call::Chain(ChainCall::SetUsed { .. }) => [handle, a, handle, c],
+        Call::WriteConfig { access, .. } => [handle, cut(a, access.width), b, c],
+        Call::WriteData { access, .. } => [handle, a, cut(b, access.width), c],
+        _ => [handle, a, b, c],
     }
 }
 

@@ -31,12 +31,18 @@ impl Through {
         }
     }
 
-    /// The functions of the layer's header that no run reached as they can be.
+    /// The functions of the layer's header, and the entries of the driver's table, that no run
+    /// reached as they can be.
     pub fn missing(self) -> Vec<String> {
         match self {
             Through::Exports => Vec::new(),
             Through::Bios => host_reached::missing(host_reached::BIOS_HEADER),
-            Through::Driver => host_reached::missing(host_reached::DRIVER_HEADER),
+            Through::Driver => {
+                let (driver, cookie) = (host_reached::DRIVER_HEADER, host_reached::COOKIE_HEADER);
+                let mut missing = host_reached::missing(driver);
+                missing.extend(host_reached::missing_entries(driver, cookie));
+                missing
+            }
         }
     }
 }

@@ -1,12 +1,12 @@
 //! What a call met beside the number of its answer; of data calls and conversions, see
-//! data_met.rs.
+//! data_met.rs, of the editions that searches name, edition_met.rs.
 
 use crate::access::Access;
 use crate::boards::{ENTRIES, FIRST_BASE, LAST_OFFSET, MASKS, OFFSET};
 use crate::calls::{Answer, Call};
 use crate::parts::Parts;
 use exports::REGISTERS;
-use second::{KeptWindow, BASES, RECORD_LENGTH, TRAILER_LENGTH};
+use second::{KeptWindow, BASES, LATER_TEXT, RECORD_LENGTH, TRAILER_LENGTH};
 use std::ops::Range;
 
 /// All that a set of runs must have met, by call.
@@ -96,12 +96,12 @@ pub fn met(call: &Call, answer: &Answer, before: &Parts, after: &Parts) -> Met {
             (NINETY_SIX, *n == 95),
             (NO_EXPONENT, exponent(before, handle, base).is_some_and(|k| !(2..=16).contains(&k))),
         ],
-        (Call::FindPciDevice { id, index }, 1..) => {
+        (Call::FindPciDevice { id, index, call_edition: LATER_TEXT }, 1..) => {
             let any_vendor = id & 0xFFFF == 0xFFFF;
             vec![(ANY_VENDOR, any_vendor), (DEVICES_PASSED, !any_vendor && *index > 0)]
         }
-        (Call::FindPciClasscode { class_code, index }, number @ 1..) => {
-            class_search(before, *class_code, *index, number)
+        (Call::FindPciClasscode { class_code, index, call_edition: LATER_TEXT }, 1..) => {
+            class_search(before, *class_code, *index, answer.number)
         }
         (Call::FastReadConfig(access), 1) => vec![
             (FILLERS[0], access.width == 1),
@@ -137,7 +137,7 @@ fn class_search(parts: &Parts, class_code: u32, index: u32, number: i64) -> Met 
     let board = parts.board();
     let mattered = |bit: u32| {
         let compared = class_code & !(1 << bit);
-        i64::from(board.find_pci_classcode(compared, index)) != number
+        i64::from(board.find_pci_classcode(compared, index, LATER_TEXT)) != number
     };
     vec![
         (IGNORED[0], mattered(24)),
@@ -278,8 +278,9 @@ mod tests {
     #[test]
     fn searches() {
         let mut b1 = fresh_b1();
-        let device = |id, index| Call::FindPciDevice { id, index };
-        let class = |class_code, index| Call::FindPciClasscode { class_code, index };
+        let call_edition = LATER_TEXT;
+        let device = |id, index| Call::FindPciDevice { id, index, call_edition };
+        let class = |class_code, index| Call::FindPciClasscode { class_code, index, call_edition };
         assert_eq!(met_by(&mut b1, device(0x0001_0F0F, 1)), [DEVICES_PASSED]);
         assert_eq!(met_by(&mut b1, device(0x0000_FFFF, 0)), [ANY_VENDOR]);
         assert_eq!(met_by(&mut b1, class(0x0111_8055, 0)), [IGNORED[0]]);

@@ -52,11 +52,11 @@ impl Second {
                 let verdict = second::check_image(image, *room);
                 Answer::verdict(verdict.number, verdict.place)
             }
-            Call::FindPciDevice { id, index } => {
-                Answer::number(board.find_pci_device(*id, *index).into())
+            Call::FindPciDevice { id, index, call_edition } => {
+                Answer::number(board.find_pci_device(*id, *index, *call_edition).into())
             }
-            Call::FindPciClasscode { class_code, index } => {
-                Answer::number(board.find_pci_classcode(*class_code, *index).into())
+            Call::FindPciClasscode { class_code, index, call_edition } => {
+                Answer::number(board.find_pci_classcode(*class_code, *index, *call_edition).into())
             }
             Call::ReadConfig(access) => read(board, *access),
             Call::FastReadConfig(access) => fast_read(board, *access),

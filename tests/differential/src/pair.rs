@@ -2,7 +2,7 @@
 //! leaves is compared.
 
 use crate::calls::{Answer, Call};
-use crate::chain_history::History;
+use crate::history::History;
 use crate::layer::{Layer, Performed, Through};
 use crate::model::Second;
 use crate::parts::{first_difference, Parts};
@@ -62,6 +62,7 @@ impl Pair {
     /// Gives the cell buffer of both other contents, as a caller may.
     pub fn change_cells(&mut self, change: impl FnOnce(&mut [u8])) {
         change(&mut self.second.cells);
+        self.history.written = None;
         self.proved.lend_cells(&self.second.cells);
     }
 }

@@ -65,9 +65,11 @@ impl Proved {
             Call::WriteImage { out } => self.write_image(out)?,
             Call::ListWindow { n } => self.list_window(*n)?,
             Call::CheckImage { image, room } => check_image(image, *room)?,
-            Call::FindPciDevice { id, index } => self.find_pci_device(*id, *index),
-            Call::FindPciClasscode { class_code, index } => {
-                self.find_pci_classcode(*class_code, *index)
+            Call::FindPciDevice { id, index, call_edition } => {
+                self.find_pci_device(*id, *index, *call_edition)
+            }
+            Call::FindPciClasscode { class_code, index, call_edition } => {
+                self.find_pci_classcode(*class_code, *index, *call_edition)
             }
             Call::ReadConfig(access) => self.read_config(*access)?,
             Call::FastReadConfig(access) => self.fast_read_config(*access)?,
@@ -161,17 +163,18 @@ impl Proved {
         Ok(Answer { values: values.value, ..Answer::number(number.into()) })
     }
 
-    fn find_pci_device(&mut self, id: u32, index: u32) -> Answer {
+    fn find_pci_device(&mut self, id: u32, index: u32, call_edition: u32) -> Answer {
         let (header, registers) = (&raw mut self.header.value, &raw mut self.registers.value);
         // SAFETY: as in `load`.
-        let number = unsafe { bios_find_pci_device(header, registers, id, index) };
+        let number = unsafe { bios_find_pci_device(header, registers, id, index, call_edition) };
         Answer::number(number.into())
     }
 
-    fn find_pci_classcode(&mut self, class_code: u32, index: u32) -> Answer {
+    fn find_pci_classcode(&mut self, class_code: u32, index: u32, call_edition: u32) -> Answer {
         let (header, registers) = (&raw mut self.header.value, &raw mut self.registers.value);
         // SAFETY: as in `load`.
-        let number = unsafe { bios_find_pci_classcode(header, registers, class_code, index) };
+        let number =
+            unsafe { bios_find_pci_classcode(header, registers, class_code, index, call_edition) };
         Answer::number(number.into())
     }
 
@@ -232,6 +235,7 @@ impl Proved {
                 access.width,
                 access.handle,
                 access.address,
+                access.call_edition,
                 &raw mut value.value,
             )
         };
@@ -255,6 +259,7 @@ impl Proved {
                 access.width,
                 access.handle,
                 access.address,
+                access.call_edition,
                 &raw mut fault.value,
             )
         };
@@ -278,6 +283,7 @@ impl Proved {
                 access.handle,
                 access.address,
                 value,
+                access.call_edition,
             )
         };
         Answer::number(number.into())

@@ -7,7 +7,7 @@ use crate::calls::{Answer, Call};
 use crate::chain_arguments::{chain, hook};
 use crate::chain_calls::ChainCall;
 use crate::damage::damaged;
-use crate::data_arguments::{conversion, data};
+use crate::data_arguments::{conversion, data, read_back};
 use crate::model::Second;
 use crate::pair::Pair;
 use crate::parts::Parts;
@@ -60,7 +60,7 @@ impl<'a> Run<'a> {
             }
             22..=27 => self.several(|random, second| configuration(random, &second.parts)),
             28..=31 => self.several(|random, second| search(random, &second.parts)),
-            32..=42 => self.several(data),
+            32..=42 => self.data(),
             43 => self.several(conversion),
             44..=48 => self.several(chain),
             49 => self.list_chains(),
@@ -86,10 +86,27 @@ impl<'a> Run<'a> {
     /// Calls of one kind in a row: what one leaves is the next one's board. On an empty
     /// board there is not much to ask.
     fn several(&mut self, choose: fn(&mut Random, &Second) -> Call) -> Result<(), String> {
-        let most = if self.pair.parts().functions() == 0 { 1 } else { 6 };
-        for _ in 0..self.random.within(1..=most) {
+        for _ in 0..self.calls_in_a_row() {
             let call = choose(&mut self.random, self.pair.second());
             self.call(call)?;
+        }
+        Ok(())
+    }
+
+    fn calls_in_a_row(&mut self) -> usize {
+        let most = if self.pair.parts().functions() == 0 { 1 } else { 6 };
+        self.random.within(1..=most)
+    }
+
+    /// Data calls in a row; at times what was written is read in the other edition.
+    fn data(&mut self) -> Result<(), String> {
+        for _ in 0..self.calls_in_a_row() {
+            let call = data(&mut self.random, self.pair.second());
+            let read_back = read_back(&mut self.random, self.pair.parts(), &call);
+            self.call(call)?;
+            if let Some(read) = read_back.filter(|_| self.random.one_in(3)) {
+                self.call(read)?;
+            }
         }
         Ok(())
     }

@@ -6,7 +6,7 @@ use crate::boards::RandomBoard;
 use crate::calls::Call;
 use crate::chain_arguments::{chain, hook};
 use crate::damage::damaged;
-use crate::data_arguments::{conversion, data};
+use crate::data_arguments::{conversion, data, read_back};
 use crate::model::Second;
 use crate::random::Random;
 use crate::resource_arguments::resource;
@@ -42,7 +42,8 @@ impl Composed {
         composed
     }
 
-    /// Calls of one kind in a row; at times all functions are hooked before.
+    /// Calls of one kind in a row; at times all functions are hooked before, or what is written
+    /// is read in the other edition.
     fn several(&mut self, random: &mut Random) {
         let kind = random.below(20);
         if kind == 0 {
@@ -62,7 +63,11 @@ impl Composed {
                 18 => conversion(random, second),
                 _ => resource(random, second),
             };
+            let read_back = read_back(random, &second.parts, &call);
             self.ask(random, call);
+            if let Some(read) = read_back.filter(|_| random.one_in(2)) {
+                self.ask(random, read);
+            }
         }
     }
 

@@ -55,12 +55,13 @@ fn lengthen(random: &mut Random, script: &mut Vec<u8>) {
 /// Changes a byte of a header: often one of the first four, each of which has values that
 /// are near to good ones.
 fn change_byte(random: &mut Random, header: &mut [u8]) {
-    let at = match random.below(12) {
+    let at = match random.below(13) {
         field @ 0..=3 => field,
         4..=6 => random.within(4..=15),
-        7 => random.within(16..=OWN_LENGTH - 1),
-        8 => random.within(OWN_LENGTH..=HEADER - 1),
-        9 => HEADER - 1,
+        7 => random.within(16..=19),
+        8 => random.within(20..=OWN_LENGTH - 1),
+        9 => random.within(OWN_LENGTH..=HEADER - 1),
+        10 => HEADER - 1,
         _ => random.below(HEADER),
     };
     let (any, operation) = (random.byte(), random.within(1..=23) as u8);

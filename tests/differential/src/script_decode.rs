@@ -3,13 +3,14 @@
 use crate::access::{Access, DataAccess};
 use crate::calls::Call;
 use crate::chain_calls::ChainCall;
-use crate::script_encode::{Asked, HEADER, OWN_LENGTH};
+use crate::script_encode::{exchanged, Asked, HEADER, OWN_LENGTH};
 use std::ops::Range;
 
-/// The fields that each operation has, from 1 on: width, space, register or bus, handle, a, b.
+/// The fields that each operation has, from 1 on: width, space, register or bus, handle, a, b,
+/// c.
 const FIELDS: [&str; 23] = [
-    "", "", "", "ab", "ab", "wrh", "wrh", "wrha", "wsha", "wsha", "wshab", "ha", "ha", "a", "h",
-    "hab", "h", "ab", "h", "hab", "ra", "h", "ha",
+    "", "", "", "abc", "abc", "wrh", "wrh", "wrha", "wshac", "wshac", "wshabc", "ha", "ha", "a",
+    "h", "hab", "h", "ab", "h", "hab", "ra", "h", "ha",
 ];
 
 pub const SHORT: &str = "a script stopped: fewer than 64 bytes remain";
@@ -22,14 +23,15 @@ pub const NO_ROOM: &str = "a script stopped: an own buffer does not fit";
 /// No call has the last.
 type Zero = (char, Range<usize>, &'static str);
 
-pub const ZEROS: [Zero; 7] = [
+pub const ZEROS: [Zero; 8] = [
     ('w', 1..2, "a script stopped: a width where there is none"),
     ('s', 2..3, "a script stopped: a space where there is none"),
     ('r', 3..4, "a script stopped: a register where there is none"),
     ('h', 4..8, "a script stopped: a handle where there is none"),
     ('a', 8..12, "a script stopped: an argument a where there is none"),
     ('b', 12..16, "a script stopped: an argument b where there is none"),
-    ('-', 16..60, "a script stopped: bytes 16 to 59 are not 0"),
+    ('c', 16..20, "a script stopped: an argument c where there is none"),
+    ('-', 20..60, "a script stopped: bytes 20 to 59 are not 0"),
 ];
 
 /// The call at the front with the whole cell buffer lent, or all that is wrong with it.
@@ -70,16 +72,16 @@ fn wrong(header: &[u8; HEADER]) -> Vec<&'static str> {
 /// The call of a header in which nothing is wrong.
 fn call(header: &[u8; HEADER], own: &[u8], lent: usize) -> Call {
     let [operation, width, io, register] = [0, 1, 2, 3].map(|at| header[at]);
-    let [handle, a, b] = [4, 8, 12].map(|at| long(header, at));
-    let (width, io) = (width.into(), io.into());
+    let [handle, a, b, c] = [4, 8, 12, 16].map(|at| long(header, at));
+    let (width, io, call_edition) = (width.into(), io.into(), exchanged(c));
     let access = Access { width, handle, register };
-    let data = DataAccess { io, width, handle, address: a, lent };
+    let data = DataAccess { io, width, handle, address: a, call_edition, lent };
     match operation {
         1 => Call::Load { image: own.to_vec(), lent },
         2 => Call::Reset { lent },
         3 => Call::WriteImage { out: own.to_vec() },
-        4 => Call::FindPciDevice { id: a, index: b },
-        5 => Call::FindPciClasscode { class_code: a, index: b },
+        4 => Call::FindPciDevice { id: a, index: b, call_edition },
+        5 => Call::FindPciClasscode { class_code: a, index: b, call_edition },
         6 => Call::ReadConfig(access),
         7 => Call::FastReadConfig(access),
         8 => Call::WriteConfig { access, value: a },
@@ -114,6 +116,7 @@ fn long(header: &[u8; HEADER], at: usize) -> u32 {
 #[cfg(test)]
 mod tests {
     use super::*;
+    use crate::editions::named;
     use crate::script_encode::encoded;
     use crate::script_sweep::samples;
 
@@ -152,5 +155,23 @@ mod tests {
             assert_eq!(set(1, place.end - 1, 1), [cause]);
         }
         assert_eq!(set(5, 1, 4), [""; 0]);
+    }
+
+    /// Argument c is the edition of searches and data calls, with 0 and 2 exchanged; all others
+    /// have none.
+    #[test]
+    fn editions() {
+        for (sample, asked) in samples().iter().enumerate() {
+            let read = |at, byte| {
+                let mut script = encoded(asked);
+                script[at] = byte;
+                front(&script, 4096).ok().map(|read| named(&read.call))
+            };
+            let has_edition = [3, 4, 8, 9, 10].contains(&sample);
+            let of = |edition| has_edition.then_some(Some(edition));
+            assert_eq!([1, 2, 3].map(|c| read(19, c)), [1, 0, 3].map(of), "{sample}");
+            assert_eq!([read(16, 1), read(18, 1)], [1 << 24, 1 << 8].map(of), "{sample}");
+            assert_eq!(read(19, 0), Some(has_edition.then_some(2)), "{sample}");
+        }
     }
 }

@@ -15,8 +15,8 @@ pub struct Asked {
     pub own: Vec<u8>,
 }
 
-/// The first four bytes of a header; then handle, a and b. What a call does not have is 0.
-pub type Fields = ([u8; 4], [u32; 3]);
+/// The first four bytes of a header; then handle, a, b and c. What a call does not have is 0.
+pub type Fields = ([u8; 4], [u32; 4]);
 
 /// The header of a call and its own buffer.
 pub fn encoded(asked: &Asked) -> Vec<u8> {
@@ -65,8 +65,10 @@ pub fn fields(call: &Call) -> Fields {
         Call::Load { .. } => plain(1, [0, 0, 0]),
         Call::Reset { .. } => plain(2, [0, 0, 0]),
         Call::WriteImage { .. } => plain(3, [0, 0, 0]),
-        Call::FindPciDevice { id, index } => plain(4, [0, id, index]),
-        Call::FindPciClasscode { class_code, index } => plain(5, [0, class_code, index]),
+        Call::FindPciDevice { id, index, call_edition } => search(4, id, index, call_edition),
+        Call::FindPciClasscode { class_code, index, call_edition } => {
+            search(5, class_code, index, call_edition)
+        }
         Call::ReadConfig(access) => configuration(6, access, 0),
         Call::FastReadConfig(access) => configuration(7, access, 0),
         Call::WriteConfig { access, value } => configuration(8, access, value),
@@ -89,23 +91,37 @@ fn chain(call: ChainCall) -> Fields {
         ChainCall::List { line, place } => plain(18, [0, line, place]),
         ChainCall::GetUsed { handle } => plain(19, [handle, 0, 0]),
         ChainCall::SetUsed { handle, status, call_back } => plain(20, [handle, status, call_back]),
-        ChainCall::SpecialCycle { bus, message } => ([21, 0, 0, bus], [0, message, 0]),
+        ChainCall::SpecialCycle { bus, message } => ([21, 0, 0, bus], [0, message, 0, 0]),
         ChainCall::GetRouting { handle } => plain(22, [handle, 0, 0]),
         ChainCall::SetInterrupt { handle, mode } => plain(23, [handle, mode, 0]),
     }
 }
 
-fn plain(operation: u8, longs: [u32; 3]) -> Fields {
-    ([operation, 0, 0, 0], longs)
+fn plain(operation: u8, [handle, a, b]: [u32; 3]) -> Fields {
+    ([operation, 0, 0, 0], [handle, a, b, 0])
+}
+
+fn search(operation: u8, sought: u32, index: u32, call_edition: u32) -> Fields {
+    ([operation, 0, 0, 0], [0, sought, index, exchanged(call_edition)])
 }
 
 fn configuration(operation: u8, access: Access, value: u32) -> Fields {
-    ([operation, access.width as u8, 0, access.register], [access.handle, value, 0])
+    ([operation, access.width as u8, 0, access.register], [access.handle, value, 0, 0])
 }
 
 fn data(operation: u8, access: DataAccess, value: u32) -> Fields {
     let bytes = [operation, access.width as u8, access.io as u8, 0];
-    (bytes, [access.handle, access.address, value])
+    (bytes, [access.handle, access.address, value, exchanged(access.call_edition)])
+}
+
+/// Argument c of an edition, and the edition of an argument c: 0 and 2 exchanged, so that a
+/// header from before there were editions means the later text.
+pub fn exchanged(number: u32) -> u32 {
+    match number {
+        0 => 2,
+        2 => 0,
+        number => number,
+    }
 }
 
 #[cfg(test)]
@@ -114,13 +130,18 @@ mod tests {
 
     #[test]
     fn a_call() {
-        let access = DataAccess { io: 1, width: 2, handle: 0x0102_0304, address: 5, lent: 0 };
-        let call = Call::WriteData { access, value: 0xFFFE_FDFC };
-        let script = encoded(&Asked { call, own: vec![7, 8] });
-        let start = [11, 2, 1, 0, 1, 2, 3, 4, 0, 0, 0, 5, 0xFF, 0xFE, 0xFD, 0xFC];
-        assert_eq!(script[..16], start);
-        assert_eq!(script[16..60], [0; 44]);
+        let of = |call_edition| {
+            let (handle, address) = (0x0102_0304, 5);
+            let access = DataAccess { io: 1, width: 2, handle, address, call_edition, lent: 0 };
+            let call = Call::WriteData { access, value: 0xFFFE_FDFC };
+            encoded(&Asked { call, own: vec![7, 8] })
+        };
+        let script = of(0x0506_0708);
+        let start = [11, 2, 1, 0, 1, 2, 3, 4, 0, 0, 0, 5, 0xFF, 0xFE, 0xFD, 0xFC, 5, 6, 7, 8];
+        assert_eq!(script[..20], start);
+        assert_eq!(script[20..60], [0; 40]);
         assert_eq!(script[60..], [0, 0, 0, 2, 7, 8]);
+        assert_eq!([0, 1, 2, 3].map(|edition| of(edition)[19]), [2, 1, 0, 3]);
     }
 
     #[test]
@@ -140,7 +161,8 @@ mod tests {
         let access = Access { width: 1, handle: 1, register: 0 };
         let fast = Asked { call: Call::FastReadConfig(access), own: Vec::new() };
         assert_eq!(answered(&fast, &Answer::fast_read(0xFF, 1))[..8], [0, 0, 0, 0, 1, 0, 0, 0]);
-        let search = Asked { call: Call::FindPciDevice { id: 0, index: 0 }, own: Vec::new() };
+        let call = Call::FindPciDevice { id: 0, index: 0, call_edition: 1 };
+        let search = Asked { call, own: Vec::new() };
         assert_eq!(answered(&search, &Answer::number(16))[..8], [0, 0, 0, 16, 0, 0, 0, 0]);
         let load = Asked { call: Call::Load { image: Vec::new(), lent: 0 }, own: Vec::new() };
         assert_eq!(answered(&load, &Answer::number(6))[..8], [0, 0, 0, 6, 1, 0, 0, 0]);

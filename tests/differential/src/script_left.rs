@@ -1,6 +1,7 @@
 //! What the run of a script leaves by the second implementation, and how the proved code's
 //! run of it differs.
 
+use crate::editions::named;
 use crate::model::Second;
 use crate::parts::first_difference;
 use crate::proved::Proved;
@@ -12,6 +13,8 @@ pub struct Performed {
     /// Where it stands in the script.
     pub place: usize,
     pub name: &'static str,
+    /// The edition that it names, where it names one.
+    pub call_edition: Option<u32>,
     pub refused: bool,
 }
 
@@ -51,8 +54,12 @@ impl Left {
     /// Performs the next call: its answer stands where the call stood.
     pub fn perform(&mut self, asked: &Asked) {
         let answer = self.second.perform(&asked.call);
-        let refused = is_refused(&asked.call, &answer);
-        self.calls.push(Performed { place: self.place, name: asked.call.name(), refused });
+        self.calls.push(Performed {
+            place: self.place,
+            name: asked.call.name(),
+            call_edition: named(&asked.call),
+            refused: is_refused(&asked.call, &answer),
+        });
         self.script.extend(answered(asked, &answer));
         self.place = self.script.len();
     }

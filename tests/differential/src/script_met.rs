@@ -2,29 +2,41 @@
 
 use crate::parts::Parts;
 use crate::script_decode::{NO_OPERATION, NO_ROOM, NO_SPACE, NO_WIDTH, SHORT, ZEROS};
-use crate::script_left::Left;
-use second::Board;
+use crate::script_left::{Left, Performed};
+use second::{Board, DRAFT_1_9, LATER_TEXT};
 use std::collections::BTreeMap;
 
-/// Whether a call can be accepted in a script, and refused.
-const BOTH: &[bool] = &[false, true];
-const ACCEPTED: &[bool] = &[true];
-const REFUSED: &[bool] = &[false];
+/// What a call says of its edition: nothing where it names none. Edition 0 is the one whose
+/// argument c is another's number.
+const NONE: &str = "";
+const DRAFT: &str = " of draft 1.9";
+const LATER: &str = " of the later text";
+const ZERO: &str = " of edition 0";
+const OTHER: &str = " of another edition";
+
+/// Whether a call can be accepted in a script, and refused, by its edition.
+type Outcomes = &'static [(&'static str, bool)];
+
+const BOTH: Outcomes = &[(NONE, false), (NONE, true)];
+const ACCEPTED: Outcomes = &[(NONE, true)];
+const REFUSED: Outcomes = &[(NONE, false)];
+const IN_EDITIONS: Outcomes =
+    &[(DRAFT, false), (DRAFT, true), (LATER, false), (LATER, true), (ZERO, false), (OTHER, false)];
 
 /// The operations by number. One cell buffer is lent to a whole script, so that no reset
 /// can find it too short.
-const OPERATIONS: [(&str, &[bool]); 23] = [
+const OPERATIONS: [(&str, Outcomes); 23] = [
     ("load", BOTH),
     ("reset", ACCEPTED),
     ("write_image", BOTH),
-    ("find_pci_device", BOTH),
-    ("find_pci_classcode", BOTH),
+    ("find_pci_device", IN_EDITIONS),
+    ("find_pci_classcode", IN_EDITIONS),
     ("read_config", BOTH),
     ("fast_read_config", BOTH),
     ("write_config", BOTH),
-    ("read_data", BOTH),
-    ("fast_read_data", BOTH),
-    ("write_data", BOTH),
+    ("read_data", IN_EDITIONS),
+    ("fast_read_data", IN_EDITIONS),
+    ("write_data", IN_EDITIONS),
     ("bus_to_cpu", BOTH),
     ("cpu_to_bus", BOTH),
     ("list_window", BOTH),
@@ -50,8 +62,9 @@ const OLD_PARTS: &str = "a script over parts that are not zero";
 const CUT_IN_HEADER: &str = "a script cut in a header after others";
 const CUT_IN_OWN: &str = "a script cut in an own buffer";
 const LENGTHENED: &str = "a script stopped where the sound one ends";
+const MIXED: &str = "a script with accepted data calls of both editions";
 
-const ALL: [&str; 10] = [
+const ALL: [&str; 11] = [
     AT_0,
     AFTER_SEVERAL,
     WHOLE,
@@ -62,13 +75,14 @@ const ALL: [&str; 10] = [
     CUT_IN_HEADER,
     CUT_IN_OWN,
     LENGTHENED,
+    MIXED,
 ];
 
 #[derive(Default)]
 pub struct ScriptMet {
     pub scripts: u64,
-    /// By name, and whether they were accepted.
-    calls: BTreeMap<(&'static str, bool), u64>,
+    /// By name and edition, and whether they were accepted.
+    calls: BTreeMap<(&'static str, &'static str, bool), u64>,
     met: BTreeMap<&'static str, u64>,
 }
 
@@ -78,7 +92,8 @@ impl ScriptMet {
     pub fn count(&mut self, script: &[u8], left: &Left, sound: &[u8], before: &Parts) {
         self.scripts += 1;
         for call in &left.calls {
-            *self.calls.entry((call.name, !call.refused)).or_default() += 1;
+            let edition = edition_of(call);
+            *self.calls.entry((call.name, edition, !call.refused)).or_default() += 1;
         }
         // A cause counts where there is no other.
         if let [cause] = left.wrong[..] {
@@ -97,6 +112,11 @@ impl ScriptMet {
         self.note(CUT_IN_HEADER, cut && left.wrong == [SHORT] && left.place > 0);
         self.note(CUT_IN_OWN, cut && left.wrong == [NO_ROOM]);
         self.note(LENGTHENED, stopped && left.place == sound.len() && script.starts_with(sound));
+        let accepted = |edition| {
+            let data = |call: &&Performed| call.name.ends_with("_data") && !call.refused;
+            left.calls.iter().filter(data).any(|call| edition_of(call) == edition)
+        };
+        self.note(MIXED, accepted(DRAFT) && accepted(LATER));
     }
 
     fn note(&mut self, what: &'static str, met: bool) {
@@ -107,8 +127,10 @@ impl ScriptMet {
     pub fn missing(&self) -> Vec<String> {
         let mut missing = Vec::new();
         for (name, outcomes) in OPERATIONS {
-            for accepted in outcomes.iter().filter(|a| !self.calls.contains_key(&(name, **a))) {
-                missing.push(in_script(name, *accepted));
+            for &(edition, accepted) in outcomes {
+                if !self.calls.contains_key(&(name, edition, accepted)) {
+                    missing.push(in_script(name, edition, accepted));
+                }
             }
         }
         let zeros = ZEROS.map(|(_, _, cause)| cause);
@@ -121,8 +143,8 @@ impl ScriptMet {
     }
 
     pub fn print(&self) {
-        for ((name, accepted), times) in &self.calls {
-            println!("{}: {times}", in_script(name, *accepted));
+        for ((name, edition, accepted), times) in &self.calls {
+            println!("{}: {times}", in_script(name, edition, *accepted));
         }
         for (what, times) in &self.met {
             println!("{what}: {times}");
@@ -130,16 +152,26 @@ impl ScriptMet {
     }
 }
 
-fn in_script(name: &str, accepted: bool) -> String {
-    format!("{name} {} in a script", if accepted { "accepted" } else { "refused" })
+fn in_script(name: &str, edition: &str, accepted: bool) -> String {
+    format!("{name}{edition} {} in a script", if accepted { "accepted" } else { "refused" })
+}
+
+fn edition_of(call: &Performed) -> &'static str {
+    match call.call_edition {
+        None => NONE,
+        Some(DRAFT_1_9) => DRAFT,
+        Some(LATER_TEXT) => LATER,
+        Some(0) => ZERO,
+        Some(_) => OTHER,
+    }
 }
 
 /// Whether the first byte that differs from the sound script's is one of a performed call's
-/// first 16, so that it is another call.
+/// first 20, so that it is another call.
 fn says_another(script: &[u8], left: &Left, sound: &[u8]) -> bool {
     let changed = script.iter().zip(sound).position(|(now, before)| now != before);
     changed
-        .is_some_and(|at| left.calls.iter().any(|call| (call.place..call.place + 16).contains(&at)))
+        .is_some_and(|at| left.calls.iter().any(|call| (call.place..call.place + 20).contains(&at)))
 }
 
 /// Whether some performed call that uses no buffer has one.
@@ -192,13 +224,37 @@ mod tests {
     #[test]
     fn operations() {
         let mut met = ScriptMet::default();
-        assert_eq!(met.missing().len(), 42 + 12 + 10);
+        assert_eq!(met.missing().len(), 32 + 30 + 13 + 11);
         let sound: Vec<_> = samples().iter().flat_map(encoded).collect();
         met.count(&sound, &Left::of(&sound, vec![0; 4096]), &sound, &Parts::of(&Board::new()));
         let missing = met.missing();
-        assert!(!missing.contains(&in_script("special_cycle", false)));
+        assert!(!missing.contains(&in_script("special_cycle", NONE, false)));
         for (name, outcomes) in OPERATIONS {
-            assert!(outcomes.iter().any(|o| !missing.contains(&in_script(name, *o))), "{name}");
+            let met = |&(edition, accepted): &(_, _)| {
+                !missing.contains(&in_script(name, edition, accepted))
+            };
+            assert!(outcomes.iter().any(met), "{name}");
         }
+    }
+
+    /// Both editions in one script, one of them refused, and an edition by its argument c.
+    #[test]
+    fn editions() {
+        let [load, write] = [0, 10].map(|sample| encoded(&samples()[sample]));
+        let with_c = |c| {
+            let mut call = write.clone();
+            call[19] = c;
+            call
+        };
+        let met = |calls: &[Vec<u8>]| {
+            let script = [&load, &calls.concat()].map(Vec::as_slice).concat();
+            let left = Left::of(&script, vec![0; 4096]);
+            let mut met = ScriptMet::default();
+            met.count(&script, &left, &script, &Parts::of(&Board::new()));
+            (left.calls.iter().map(edition_of).collect::<Vec<_>>(), met.met[MIXED] == 1)
+        };
+        assert_eq!(met(&[with_c(0), with_c(1)]), (vec![NONE, LATER, DRAFT], true));
+        assert_eq!(met(&[with_c(0), with_c(2)]), (vec![NONE, LATER, ZERO], false));
+        assert_eq!(met(&[with_c(1), with_c(3)]), (vec![NONE, DRAFT, OTHER], false));
     }
 }

@@ -1,12 +1,12 @@
 //! How often each answer came up, and which that can occur never did.
 
 use crate::calls::{Answer, Call};
-use crate::chain_history::History;
+use crate::history::History;
 use crate::layer::Through;
 use crate::model::Second;
 use crate::parts::Parts;
 use crate::script_met::ScriptMet;
-use crate::{chain_met, data_met, met, resource_met};
+use crate::{chain_met, data_met, edition_met, met, resource_met};
 use std::collections::BTreeMap;
 use std::ops::RangeInclusive;
 
@@ -18,8 +18,8 @@ const ANSWERS: [(&str, &[RangeInclusive<i64>]); 25] = [
     ("write_image", &[0..=1, 3..=3]),
     ("reset", &[-7..=-7, 0..=0]),
     ("list_window", &[-4..=-4, 0..=0]),
-    ("find_pci_device", &[-4..=-4, 1..=16]),
-    ("find_pci_classcode", &[-4..=-4, 1..=16]),
+    ("find_pci_device", &[-4..=-2, 1..=16]),
+    ("find_pci_classcode", &[-4..=-4, -2..=-2, 1..=16]),
     ("read_config", &[-9..=-8, -5..=-5, 0..=0]),
     ("fast_read_config", &[0..=1]),
     ("write_config", &[-9..=-8, -5..=-5, 0..=0]),
@@ -73,7 +73,9 @@ impl Tally {
             Call::Chain(call) => chain_met::met(*call, answer, before, &after.parts, history),
             _ => Vec::new(),
         };
-        for (what, met) in [met, data_met, resource_met, chain_met].into_iter().flatten() {
+        let edition_met = edition_met::met(call, answer, before, &after.cells, history);
+        let all = [met, data_met, resource_met, chain_met, edition_met];
+        for (what, met) in all.into_iter().flatten() {
             *self.met.entry(what).or_default() += u64::from(met);
         }
     }
@@ -98,7 +100,7 @@ impl Tally {
                 }
             }
         }
-        let all = met::ALL.into_iter().chain(data_met::all());
+        let all = met::ALL.into_iter().chain(data_met::all()).chain(edition_met::all());
         for what in all.chain(resource_met::ALL).chain(chain_met::all()) {
             if self.met.get(what).is_none_or(|&times| times == 0) {
                 missing.push(what.to_string());

@@ -52,12 +52,14 @@ extern "C" {
         registers: *const Registers,
         id: u32,
         index: u32,
+        call_edition: u32,
     ) -> i32;
     pub fn bios_find_pci_classcode(
         header: *const Header,
         registers: *const Registers,
         class_code: u32,
         index: u32,
+        call_edition: u32,
     ) -> i32;
     pub fn bios_read_config(
         header: *const Header,
@@ -96,6 +98,7 @@ extern "C" {
         width: u32,
         handle: u32,
         address: u32,
+        call_edition: u32,
         value: *mut u32,
     ) -> i32;
     pub fn bios_fast_read_data(
@@ -109,6 +112,7 @@ extern "C" {
         width: u32,
         handle: u32,
         address: u32,
+        call_edition: u32,
         fault: *mut u32,
     ) -> u32;
     pub fn bios_write_data(
@@ -123,6 +127,7 @@ extern "C" {
         handle: u32,
         address: u32,
         value: u32,
+        call_edition: u32,
     ) -> i32;
     pub fn bios_bus_to_cpu(
         header: *const Header,

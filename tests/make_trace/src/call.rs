@@ -46,13 +46,16 @@ const CALLS: &[(&str, u8, u8, &[Place])] = &[
     ("set_interrupt", 23, 0, &[Handle, A]),
 ];
 
+/// The operations of searches and data calls, which may name an edition after their arguments.
+const NAMING_EDITIONS: [u8; 5] = [4, 5, 9, 10, 11];
+
 pub struct Call {
     pub header: [u8; HEADER_LENGTH],
     pub own: usize,
     pub is_load: bool,
 }
 
-/// The call of a line `name(argument, ..)`.
+/// The call of a line `name(argument, ..)` or `name(argument, .., edition N)`.
 pub fn parsed(line: &str) -> Result<Call, String> {
     let (name, rest) = line.split_once('(').ok_or(format!("`{line}` is no call"))?;
     let arguments = rest.strip_suffix(')').ok_or(format!("`{line}` has no `)` at its end"))?;
@@ -60,10 +63,17 @@ pub fn parsed(line: &str) -> Result<Call, String> {
     let (&(_, operation, space, places), width) = found.ok_or(format!("no call `{name}`"))?;
     let mut call = Call { header: [0; HEADER_LENGTH], own: 0, is_load: operation == 1 };
     call.header[..3].copy_from_slice(&[operation, width, space]);
-    let words: Vec<&str> = match arguments {
+    let mut words: Vec<&str> = match arguments {
         "" => Vec::new(),
         _ => arguments.split(", ").collect(),
     };
+    if let Some(edition) = words.pop_if(|word| word.starts_with("edition")) {
+        if !NAMING_EDITIONS.contains(&operation) {
+            return Err(format!("`{name}` names no edition"));
+        }
+        let digits = edition.strip_prefix("edition ").ok_or(format!("`{edition}`: which one?"))?;
+        call.put(16, exchanged(number(digits, u32::MAX)?));
+    }
     if words.len() != places.len() {
         return Err(format!("`{name}` has {} arguments", places.len()));
     }
@@ -71,6 +81,15 @@ pub fn parsed(line: &str) -> Result<Call, String> {
         call.set(*place, word)?;
     }
     Ok(call)
+}
+
+/// An edition as a header has it: with 0 and 2 exchanged, so that one that is not named is 2.
+fn exchanged(edition: u32) -> u32 {
+    match edition {
+        0 => 2,
+        2 => 0,
+        edition => edition,
+    }
 }
 
 /// The width that a name says, 0 for none, if it is the name of this call.
@@ -140,6 +159,58 @@ mod tests {
             [21, 0, 0, 0xFF, 0, 0, 0, 0, 0, 0, 0, 7]
         );
         assert_eq!(header("reset()")[..4], [2, 0, 0, 0]);
+    }
+
+    /// Of every call that names one: in bytes 16 to 19, with 0 and 2 exchanged.
+    #[test]
+    fn editions() {
+        let calls = [
+            "find_pci_device(0x00010f0f, 1",
+            "find_pci_classcode(0x01118055, 0",
+            "read_mem_longword(1, 0x700003fc",
+            "read_io_byte(2, 0x100",
+            "fast_read_mem_byte(1, 0",
+            "fast_read_io_word(1, 0",
+            "write_mem_word(1, 0, 0x1234",
+            "write_io_longword(1, 4, 5",
+        ];
+        for call in calls {
+            let header = |end: &str| parsed(&format!("{call}{end}")).map(|call| call.header);
+            let plain = header(")").unwrap_or([0; 64]);
+            let of = |end: &str, bytes: [u8; 4]| {
+                let mut expected = plain;
+                expected[16..20].copy_from_slice(&bytes);
+                assert_eq!(header(end), Ok(expected), "{call}{end}");
+            };
+            of(", edition 0)", [0, 0, 0, 2]);
+            of(", edition 1)", [0, 0, 0, 1]);
+            of(", edition 2)", [0, 0, 0, 0]);
+            of(", edition 3)", [0, 0, 0, 3]);
+            of(", edition 0x102)", [0, 0, 1, 2]);
+            of(", edition 4294967295)", [0xFF; 4]);
+        }
+    }
+
+    #[test]
+    fn faults_of_editions() {
+        let fault = |line: &str| parsed(line).map(|_| ()).unwrap_err();
+        assert_eq!(fault("load(12 bytes, edition 1)"), "`load` names no edition");
+        assert_eq!(fault("bus_to_cpu(1, 0, edition 2)"), "`bus_to_cpu` names no edition");
+        assert_eq!(fault("reset(edition 1)"), "`reset` names no edition");
+        let search = |end: &str| fault(&format!("find_pci_device(1, 0{end}"));
+        assert_eq!(search(", edition)"), "`edition`: which one?");
+        assert_eq!(search(", edition1)"), "`edition1`: which one?");
+        assert_eq!(search(", edition )"), "`` is no number up to 0xffffffff");
+        assert_eq!(search(", edition two)"), "`two` is no number up to 0xffffffff");
+        assert_eq!(search(", edition -1)"), "`-1` is no number up to 0xffffffff");
+        assert_eq!(search(", edition 4294967296)"), "`4294967296` is no number up to 0xffffffff");
+        assert_eq!(search(", edition 1, edition 1)"), "`find_pci_device` has 2 arguments");
+        assert_eq!(search(", 1)"), "`find_pci_device` has 2 arguments");
+        assert_eq!(fault("find_pci_device(1, edition 1)"), "`find_pci_device` has 2 arguments");
+        assert_eq!(
+            fault("find_pci_device(edition 1, 1)"),
+            "`edition 1` is no number up to 0xffffffff"
+        );
     }
 
     #[test]

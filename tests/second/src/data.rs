@@ -2,6 +2,7 @@
 
 use crate::board::Board;
 use crate::bytes::{big, put_big};
+use crate::call_edition::CallEdition;
 use crate::number::{
     fast_answer, plain_answer, Space, Width, BAD_HANDLE, BUFFER_TOO_SMALL, FUNC_NOT_SUPPORTED,
     GENERAL_ERROR, SUCCESSFUL,
@@ -9,12 +10,13 @@ use crate::number::{
 use crate::record::{byte_order, widths, BASES};
 use std::ops::Range;
 
-/// What a data call names.
+/// What a data call names; the address is of the kind that its edition gives.
 struct Target {
     space: Space,
     handle: u32,
     address: u32,
     width: Width,
+    call_edition: u32,
 }
 
 /// Where an accepted access goes: a window's cells, and the distance from its start.
@@ -33,8 +35,9 @@ impl Board {
         handle: u32,
         address: u32,
         width: Width,
+        call_edition: u32,
     ) -> (i32, u32) {
-        let target = Target { space, handle, address, width };
+        let target = Target { space, handle, address, width, call_edition };
         plain_answer(self.data_value(cells, &target))
     }
 
@@ -46,8 +49,9 @@ impl Board {
         handle: u32,
         address: u32,
         width: Width,
+        call_edition: u32,
     ) -> (u32, bool) {
-        let target = Target { space, handle, address, width };
+        let target = Target { space, handle, address, width, call_edition };
         fast_answer(self.data_value(cells, &target), width)
     }
 
@@ -60,8 +64,9 @@ impl Board {
         address: u32,
         width: Width,
         value: u32,
+        call_edition: u32,
     ) -> i32 {
-        let target = Target { space, handle, address, width };
+        let target = Target { space, handle, address, width, call_edition };
         let access = match self.data_access(cells.len(), &target) {
             Ok(access) => access,
             Err(number) => return number,
@@ -81,11 +86,13 @@ impl Board {
 
     /// The checks of a data call in their order, but for a cell past the buffer.
     fn data_access(&self, room: usize, target: &Target) -> Result<Access, i32> {
-        let &Target { space, handle, address, width } = target;
+        let &Target { space, handle, address, width, call_edition } = target;
+        let call_edition = CallEdition::named(call_edition)?;
         let place = self.place(handle).ok_or(BAD_HANDLE)?;
         if room < self.total_cells() {
             return Err(BUFFER_TOO_SMALL);
         }
+        let address = self.bus_address(handle, address, call_edition)?;
         if address as usize % width.bytes() != 0 {
             return Err(GENERAL_ERROR);
         }

@@ -1,10 +1,12 @@
-//! A modelled PCI board with its BIOS calls, written from document 01 alone.
+//! A modelled PCI board with its BIOS calls, written from document 01 and request E1 of
+//! document 02 alone.
 #![forbid(unsafe_code)]
 
 mod address;
 mod board;
 pub mod board_b1;
 mod bytes;
+mod call_edition;
 mod config;
 pub mod data;
 mod image;
@@ -22,6 +24,7 @@ mod windows;
 mod tests;
 
 pub use board::{Board, FUNCTIONS};
+pub use call_edition::{DRAFT_1_9, LATER_TEXT};
 pub use config::moves_windows;
 pub use image::{check_image, Verdict, TRAILER_LENGTH};
 pub use interrupt::Hook;

@@ -2,6 +2,7 @@
 
 pub const SUCCESSFUL: i32 = 0;
 pub const FUNC_NOT_SUPPORTED: i32 = -2;
+pub const BAD_VENDOR_ID: i32 = -3;
 pub const DEVICE_NOT_FOUND: i32 = -4;
 pub const BAD_REGISTER_NUMBER: i32 = -5;
 pub const SET_FAILED: i32 = -6;

@@ -3,7 +3,7 @@
 use super::{fresh_b1, listed, Numbers};
 use crate::Space::{Io, Memory};
 use crate::Width::{Byte, Long, Word};
-use crate::{check_image, Board, Hook, KeptWindow, Verdict};
+use crate::{check_image, Board, Hook, KeptWindow, Verdict, LATER_TEXT};
 
 #[test]
 fn altered_counts_and_lists() {
@@ -18,18 +18,18 @@ fn altered_counts_and_lists() {
     // A zero length in the middle ends the list, for data calls too.
     board.list[1].length = 0;
     assert_eq!(listed(&board).len(), 1);
-    assert_eq!(board.read_data(&cells, Io, 2, 0x100, Byte), (-8, 0));
+    assert_eq!(board.read_data(&cells, Io, 2, 0x100, Byte, LATER_TEXT), (-8, 0));
     // A window of a base register that no function has is passed over.
     board.list[0] = KeptWindow { length: u32::MAX, base: 6, ..board.list[0] };
-    assert_eq!(board.read_data(&cells, Memory, 1, u32::MAX, Byte), (-8, 0));
+    assert_eq!(board.read_data(&cells, Memory, 1, u32::MAX, Byte, LATER_TEXT), (-8, 0));
     board.list[0].contested = true;
     board.list[1] = KeptWindow { base: 0, contested: false, ..board.list[0] };
-    assert_eq!(board.read_data(&cells, Memory, 1, 0x8000_0400, Byte), (0, 0));
+    assert_eq!(board.read_data(&cells, Memory, 1, 0x8000_0400, Byte, LATER_TEXT), (0, 0));
     board.list[0] = board.list[1];
-    assert_eq!(board.read_data(&cells, Memory, 1, u32::MAX, Byte), (-7, 0));
-    assert_eq!(board.read_data(&cells, Memory, 1, 0x8000_0400, Byte), (0, 0));
+    assert_eq!(board.read_data(&cells, Memory, 1, u32::MAX, Byte, LATER_TEXT), (-7, 0));
+    assert_eq!(board.read_data(&cells, Memory, 1, 0x8000_0400, Byte, LATER_TEXT), (0, 0));
     board.list[0].contested = true;
-    assert_eq!(board.read_data(&cells, Memory, 1, u32::MAX, Byte), (-8, 0));
+    assert_eq!(board.read_data(&cells, Memory, 1, u32::MAX, Byte, LATER_TEXT), (-8, 0));
 }
 
 #[test]
@@ -52,8 +52,8 @@ fn altered_records() {
     cells[..4].copy_from_slice(&[1, 2, 3, 4]);
     board.records[0][513] = 0x11;
     board.records[0][514] = 0xF9;
-    assert_eq!(board.read_data(&cells, Memory, 1, 0x8000_0000, Byte), (0, 1));
-    assert_eq!(board.read_data(&cells, Memory, 1, 0x8000_0000, Word), (-2, 0));
+    assert_eq!(board.read_data(&cells, Memory, 1, 0x8000_0000, Byte, LATER_TEXT), (0, 1));
+    assert_eq!(board.read_data(&cells, Memory, 1, 0x8000_0000, Word, LATER_TEXT), (-2, 0));
     let mut out = [0; 20];
     assert_eq!(board.get_resource(1, &mut out), 0);
     assert_eq!(out[2..4], [0x81, 0x00]);
@@ -63,9 +63,9 @@ fn altered_records() {
     assert_eq!(listed(&board).len(), 2);
     // The total is the kept one; a window's cells begin where it is said.
     board.cell_offsets[7] = 2060;
-    assert_eq!(board.read_data(&cells[..2064], Io, 2, 0x104, Byte), (-7, 0));
+    assert_eq!(board.read_data(&cells[..2064], Io, 2, 0x104, Byte, LATER_TEXT), (-7, 0));
     board.cell_offsets[96] = 65_537;
-    assert_eq!(board.read_data(&cells, Io, 2, 0x104, Byte), (-7, 0));
+    assert_eq!(board.read_data(&cells, Io, 2, 0x104, Byte, LATER_TEXT), (-7, 0));
     assert_eq!(board.reset(&mut cells), -7);
 }
 
@@ -77,8 +77,9 @@ fn exponent_gone_from_the_record() {
     board.records[1][512] = 0;
     let lines = listed(&board);
     assert_eq!(lines.len(), 3);
-    assert_eq!(board.write_data(&mut cells, Memory, 2, 0x8000_0400, Long, 0x1122_3344), 0);
-    assert_eq!(board.read_data(&cells, Memory, 2, 0x8000_0400, Word), (0, 0x3344));
+    let value = 0x1122_3344;
+    assert_eq!(board.write_data(&mut cells, Memory, 2, 0x8000_0400, Long, value, LATER_TEXT), 0);
+    assert_eq!(board.read_data(&cells, Memory, 2, 0x8000_0400, Word, LATER_TEXT), (0, 0x3344));
     let mut out = [0xA5; 40];
     assert_eq!(board.get_resource(2, &mut out), 0);
     assert_eq!(out[..4], [0, 20, 0xC1, 0x02]);
@@ -165,10 +166,11 @@ fn every_call_ends() {
         board.write_image(&mut out);
         for handle in (0..18).chain([u32::MAX]) {
             for (space, width) in [(Memory, Byte), (Io, Word), (Memory, Long)] {
-                for address in [0, 4, numbers.below(40), numbers.next(), u32::MAX] {
-                    board.read_data(&cells, space, handle, address, width);
-                    board.fast_read_data(&cells, space, handle, address, width);
-                    board.write_data(&mut cells, space, handle, address, width, address);
+                let call_edition = numbers.below(4);
+                for at in [0, 4, numbers.below(40), numbers.next(), u32::MAX] {
+                    board.read_data(&cells, space, handle, at, width, call_edition);
+                    board.fast_read_data(&cells, space, handle, at, width, call_edition);
+                    board.write_data(&mut cells, space, handle, at, width, at, call_edition);
                 }
                 let register = numbers.next() as u8;
                 board.read_config(handle, register, width);
@@ -181,8 +183,9 @@ fn every_call_ends() {
             board.get_card_used(handle);
             board.bus_to_cpu(handle, u32::MAX);
             board.cpu_to_bus(handle, 0);
-            board.find_pci_device(numbers.next(), handle);
-            board.find_pci_classcode(numbers.next(), handle);
+            let call_edition = numbers.below(4);
+            board.find_pci_device(numbers.next(), handle, call_edition);
+            board.find_pci_classcode(numbers.next(), handle, call_edition);
             board.list_window(handle);
         }
         board.write_config(numbers.below(18), numbers.next() as u8, Byte, numbers.next());

@@ -4,8 +4,8 @@ use super::{fresh_b1, listed};
 use crate::board_b1::b1_image;
 use crate::data::read_cells;
 use crate::Space::Memory;
-use crate::Walker;
 use crate::Width::{Byte, Long, Word};
+use crate::{Walker, LATER_TEXT};
 
 #[test]
 fn b1_list() {
@@ -22,22 +22,22 @@ fn b1_list() {
 #[test]
 fn p1_to_p5_searches() {
     let (mut board, _) = fresh_b1();
-    assert_eq!(board.find_pci_device(0x0001_0F0F, 1), 2);
-    assert_eq!(board.find_pci_device(0x0001_0F0F, 2), -4);
-    assert_eq!(board.find_pci_device(0x0000_FFFF, 0), 1);
-    assert_eq!(board.find_pci_classcode(0x0111_8055, 0), 1);
-    assert_eq!(board.find_pci_classcode(0x0011_8055, 0), -4);
+    assert_eq!(board.find_pci_device(0x0001_0F0F, 1, LATER_TEXT), 2);
+    assert_eq!(board.find_pci_device(0x0001_0F0F, 2, LATER_TEXT), -4);
+    assert_eq!(board.find_pci_device(0x0000_FFFF, 0, LATER_TEXT), 1);
+    assert_eq!(board.find_pci_classcode(0x0111_8055, 0, LATER_TEXT), 1);
+    assert_eq!(board.find_pci_classcode(0x0011_8055, 0, LATER_TEXT), -4);
     // Further searches: the index is not cut, FFFFh is an ordinary device ID.
-    assert_eq!(board.find_pci_device(0x0001_0F0F, 65_536), -4);
-    assert_eq!(board.find_pci_device(0x1234_FFFF, 1), 2);
-    assert_eq!(board.find_pci_device(0xFFFF_0F0F, 0), -4);
-    assert_eq!(board.find_pci_classcode(0xF811_8000, 1), 2);
-    assert_eq!(board.find_pci_classcode(0x0455_8000, 0), 1);
-    assert_eq!(board.find_pci_classcode(0x0211_5500, 0), 1);
-    assert_eq!(board.find_pci_classcode(0x0211_5501, 0), -4);
-    assert_eq!(board.find_pci_classcode(0x07AB_CDEF, 2), -4);
+    assert_eq!(board.find_pci_device(0x0001_0F0F, 65_536, LATER_TEXT), -4);
+    assert_eq!(board.find_pci_device(0x1234_FFFF, 1, LATER_TEXT), 2);
+    assert_eq!(board.find_pci_device(0xFFFF_0F0F, 0, LATER_TEXT), -4);
+    assert_eq!(board.find_pci_classcode(0xF811_8000, 1, LATER_TEXT), 2);
+    assert_eq!(board.find_pci_classcode(0x0455_8000, 0, LATER_TEXT), 1);
+    assert_eq!(board.find_pci_classcode(0x0211_5500, 0, LATER_TEXT), 1);
+    assert_eq!(board.find_pci_classcode(0x0211_5501, 0, LATER_TEXT), -4);
+    assert_eq!(board.find_pci_classcode(0x07AB_CDEF, 2, LATER_TEXT), -4);
     board.registers[0][2] = 9;
-    assert_eq!(board.find_pci_device(0x0001_0F0F, 0), 2);
+    assert_eq!(board.find_pci_device(0x0001_0F0F, 0, LATER_TEXT), 2);
 }
 
 #[test]
@@ -57,7 +57,9 @@ fn p6_to_p8_base_registers() {
 fn p9_and_p10_whose_window() {
     let (board, mut cells) = fresh_b1();
     let before = cells.clone();
-    let write = |cells: &mut Vec<u8>, at| board.write_data(cells, Memory, 1, at, Long, 0x0102_0304);
+    let write = |cells: &mut Vec<u8>, at| {
+        board.write_data(cells, Memory, 1, at, Long, 0x0102_0304, LATER_TEXT)
+    };
     assert_eq!(write(&mut cells, 0x8000_0400), -8);
     assert_eq!(cells, before);
     assert_eq!(write(&mut cells, 0x8000_03FC), 0);

@@ -1,13 +1,13 @@
 //! Data calls: order of checks and byte orders.
 
-use super::{board_of, fresh_b1, record_with};
+use super::{board_of, fresh_b1, record_with, refused_in};
 use crate::board_b1::{image_of, plain_record, set_window, Shape};
 use crate::data::{read_cells, write_cells};
 use crate::Space::{Io, Memory};
 use crate::Width::{Byte, Long, Word};
-use crate::{Board, Space, Width};
+use crate::{Board, Space, Width, DRAFT_1_9, LATER_TEXT};
 
-/// Reads, fast reads and writes must all give this refusal and touch nothing.
+/// The refusal of both editions; they agree, the offset being 0.
 fn refused(
     board: &Board,
     cells: &[u8],
@@ -16,13 +16,8 @@ fn refused(
     address: u32,
     width: Width,
 ) -> i32 {
-    let (number, value) = board.read_data(cells, space, handle, address, width);
-    assert!(number < 0 && value == 0);
-    let fast = board.fast_read_data(cells, space, handle, address, width);
-    assert_eq!(fast, (width.all_ones(), true));
-    let mut written = cells.to_vec();
-    assert_eq!(board.write_data(&mut written, space, handle, address, width, 0x1234_5678), number);
-    assert_eq!(written, cells);
+    let number = refused_in(LATER_TEXT, board, cells, space, handle, address, width);
+    assert_eq!(refused_in(DRAFT_1_9, board, cells, space, handle, address, width), number);
     number
 }
 
@@ -44,7 +39,7 @@ fn order_of_checks() {
     assert_eq!(refused(&board, &cells, Io, 2, 0x110, Word), -8);
     assert_eq!(refused(&board, &cells, Io, 2, 0x100, Word), -2);
     assert_eq!(refused(&board, &cells, Io, 2, 0x10C, Long), -2);
-    assert_eq!(board.read_data(&cells[..2064], Io, 2, 0x10F, Byte), (0, 0));
+    assert_eq!(board.read_data(&cells[..2064], Io, 2, 0x10F, Byte, LATER_TEXT), (0, 0));
     board.write_config(2, 0x10, Long, 0x8000_0000);
     assert_eq!(refused(&board, &cells, Memory, 1, 0x8000_0000, Byte), -8);
     // Contested comes before the width.
@@ -67,8 +62,10 @@ fn each_width_is_offered_by_its_bit() {
         assert_eq!(board.load(&image_of(&[record]), &mut cells).number, 0);
         for (bit, width) in [Byte, Word, Long].into_iter().enumerate() {
             let expected = if widths >> bit & 1 == 1 { 0 } else { -2 };
-            assert_eq!(board.read_data(&cells, Memory, 1, 0x8004, width), (expected, 0));
-            assert_eq!(board.write_data(&mut cells, Memory, 1, 0x8008, width, 0), expected);
+            let read = board.read_data(&cells, Memory, 1, 0x8004, width, LATER_TEXT);
+            assert_eq!(read, (expected, 0));
+            let write = board.write_data(&mut cells, Memory, 1, 0x8008, width, 0, LATER_TEXT);
+            assert_eq!(write, expected);
         }
     }
 }
@@ -115,13 +112,13 @@ fn windows_have_their_own_cells() {
     let first = record_with(&[(0x8000, 4), (0x101, 4)]);
     let second = record_with(&[(0x9000, 4)]);
     let (mut board, mut cells) = board_of(&[first, second]);
-    assert_eq!(board.write_data(&mut cells, Memory, 1, 0x8000, Long, 0x0102_0304), 0);
-    assert_eq!(board.write_data(&mut cells, Io, 1, 0x10E, Word, 0xFFFF_0506), 0);
-    assert_eq!(board.write_data(&mut cells, Memory, 2, 0x9001, Byte, 0xFFFF_FF07), 0);
+    assert_eq!(board.write_data(&mut cells, Memory, 1, 0x8000, Long, 0x0102_0304, LATER_TEXT), 0);
+    assert_eq!(board.write_data(&mut cells, Io, 1, 0x10E, Word, 0xFFFF_0506, LATER_TEXT), 0);
+    assert_eq!(board.write_data(&mut cells, Memory, 2, 0x9001, Byte, 0xFFFF_FF07, LATER_TEXT), 0);
     assert_eq!(cells[..4], [1, 2, 3, 4]);
     assert_eq!(cells[30..34], [5, 6, 0, 7]);
     // A moved window keeps its cells.
     board.write_config(2, 0x10, Long, 0xA000);
-    assert_eq!(board.read_data(&cells, Memory, 2, 0xA000, Word), (0, 7));
-    assert_eq!(board.fast_read_data(&cells, Memory, 2, 0xA001, Byte), (7, false));
+    assert_eq!(board.read_data(&cells, Memory, 2, 0xA000, Word, LATER_TEXT), (0, 7));
+    assert_eq!(board.fast_read_data(&cells, Memory, 2, 0xA001, Byte, LATER_TEXT), (7, false));
 }

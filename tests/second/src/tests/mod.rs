@@ -1,6 +1,7 @@
-//! Tests by subject; what they expect is taken from document 01's words.
+//! Tests by subject; what they expect is taken from the words of documents 01 and 02.
 
 mod altered;
+mod call_editions;
 mod cases;
 mod chains;
 mod data;
@@ -9,7 +10,7 @@ mod resources;
 mod windows;
 
 use crate::board_b1::{b1_image, image_of, plain_record, set_window, Shape};
-use crate::{Board, Record, Verdict};
+use crate::{Board, Record, Space, Verdict, Width};
 
 /// What an untouched lent byte holds in these tests.
 const LENT: u8 = 0xA5;
@@ -38,6 +39,27 @@ fn record_with(windows: &[(u32, u8)]) -> Record {
 
 fn board_of(records: &[Record]) -> (Board, Vec<u8>) {
     loaded(&image_of(records))
+}
+
+/// Reads, fast reads and writes must all give this refusal and touch nothing.
+fn refused_in(
+    call_edition: u32,
+    board: &Board,
+    cells: &[u8],
+    space: Space,
+    handle: u32,
+    address: u32,
+    width: Width,
+) -> i32 {
+    let (number, value) = board.read_data(cells, space, handle, address, width, call_edition);
+    assert!(number < 0 && value == 0);
+    let fast = board.fast_read_data(cells, space, handle, address, width, call_edition);
+    assert_eq!(fast, (width.all_ones(), true));
+    let mut written = cells.to_vec();
+    let value = 0x1234_5678;
+    let write = board.write_data(&mut written, space, handle, address, width, value, call_edition);
+    assert_eq!((write, &written[..]), (number, cells));
+    number
 }
 
 /// The window list in the form of document 01's `windows` program.

@@ -14,4 +14,5 @@ header-fields-at-spec =
     (λ c κs. search needs)
     (λ c κs. search needs)
     (λ c κs. search needs)
-    (λ c. rw (c .big-at3 .ensures, c .before .big-at2 .ensures, c .before .before .big-at .ensures, c .before .before .before .byte-at4 .ensures, c .before .before .before .before .byte-at3 .ensures, c .before .before .before .before .before .byte-at2 .ensures, c .before .before .before .before .before .before .byte-at .ensures)))
+    (λ c κs. search needs)
+    (λ c. rw (c .big-at4 .ensures, c .before .big-at3 .ensures, c .before .before .big-at2 .ensures, c .before .before .before .big-at .ensures, c .before .before .before .before .byte-at4 .ensures, c .before .before .before .before .before .byte-at3 .ensures, c .before .before .before .before .before .before .byte-at2 .ensures, c .before .before .before .before .before .before .before .byte-at .ensures)))

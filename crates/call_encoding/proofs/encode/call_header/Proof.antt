@@ -20,6 +20,9 @@ call-header-spec =
     (λ c κs. search needs)
     (λ c. search needs)
     (λ c κs. search needs)
+    (λ c. search needs)
+    (λ c κs. search needs)
     (λ c.
-    header-put _ _ (c .before .before .before .before .before .before .before .before .before .before .put-big .ensures)
-    (c .before .before .before .before .before .before .before .put-big2 .ensures) (c .before .before .before .before .put-big3 .ensures) (c .before .put-big4 .ensures)))
+    header-put _ _ (c .before .before .before .before .before .before .before .before .before .before .before .before .before .put-big .ensures)
+    (c .before .before .before .before .before .before .before .before .before .before .put-big2 .ensures) (c .before .before .before .before .before .before .before .put-big3 .ensures)
+    (c .before .before .before .before .put-big4 .ensures) (c .before .put-big5 .ensures)))

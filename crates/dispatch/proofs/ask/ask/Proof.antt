@@ -1,7 +1,7 @@
 -- `ask`: each arm by the contract of its call.
 use mathlib.Core.Path.{refl, sym}
 use Rattle.window_listing.specs.Listing.{listingNumber, listingValues}
-use Rattle.search.proofs.Searches.{search-number}
+use Rattle.search.proofs.Searches.{sought-number}
 use Rattle.interrupt_list.specs.Listing.{chainNumberOf, chainValuesOf}
 use Rattle.call.specs.Answers.{answer, ofStatus, ofSearch, ofToCpu, ofToBus, ofChain, ofUsed}
 use Rattle.reference.specs.State.{queried}
@@ -43,8 +43,8 @@ ask-spec =
     (λ c. search needs)
     (λ c κs. search needs)
     (λ c κs. search needs)
-    (λ c offsets cells. arm-query ofSearch _ _ _ _ _ _ (c .before .before .query .given .1) (c .device-answer .ensures) (sym (search-number _ _)) refl)
-    (λ c offsets cells. arm-query ofSearch _ _ _ _ _ _ (c .before .before .query2 .given .1) (c .class-answer .ensures) (sym (search-number _ _)) refl)
+    (λ c offsets cells. arm-query ofSearch _ _ _ _ _ _ (c .before .before .query .given .1) (c .device-answer .ensures) (sym (sought-number _ _)) refl)
+    (λ c offsets cells. arm-query ofSearch _ _ _ _ _ _ (c .before .before .query2 .given .1) (c .class-answer .ensures) (sym (sought-number _ _)) refl)
     (λ c offsets cells. arm-query ofToCpu _ _ _ _ _ _ (c .before .before .before .query3 .given .1) (c .of-to-cpu .ensures) (c .before .bus-to-cpu .ensures) refl)
     (λ c offsets cells. arm-query ofToBus _ _ _ _ _ _ (c .before .before .before .query4 .given .1) (c .of-to-bus .ensures) (c .before .cpu-to-bus .ensures) refl)
     (λ c offsets cells. arm-query (λ l. ofChain (chainNumberOf l) (chainValuesOf l)) _ _ _ _ _ _ (c .before .before .before .query5 .given .1) (c .of-chain .ensures) (c .before .list-chain .ensures .answer) refl)

@@ -3,7 +3,7 @@ use Prim.Native.Nat.{suc, _+_, _-_, _≤_}
 use mathlib.Core.Path.{_≡_, sym, _∙_}
 use native.Mathlib.Nat.{sub-zero}
 use Rattle.board.specs.Layout.{registerByte}
-use Rattle.search.specs.Search.{matching, searched}
+use Rattle.search.specs.Search.{matching, searched, soughtAt}
 use Rattle.search.specs.Steps.{matches}
 use Rattle.search.proofs.Searches.{finds, turn-found, turn-counted, turn-passed}
 use borrow.Author.Needs.{needs}
@@ -32,6 +32,7 @@ add-t11 : tie.Need-add-t11 Inv-loop μ-loop
 add-t11 c = search needs
 
 returns : tie.Need-returns Inv-loop μ-loop
+unfolding soughtAt
 returns c =
     let l = c .before .before .before .before .loop in
     let n = c .before .before .before .before .before .function-count in
@@ -68,7 +69,7 @@ loop-again-2 c =
     (omega arith, sym (turn-passed _ _ _ _ e _ (sym (c .before .matches .ensures) ∙ c .if1 .left)) ∙ l .inv .1)
 
 returns-2 : tie.Need-returns-2 Inv-loop μ-loop
-unfolding matching searched
+unfolding matching searched soughtAt
 returns-2 c =
     let l = c .before .loop in
     let n = c .before .before .function-count in

@@ -1,6 +1,6 @@
-//! What calls did to hooks since the board was loaded, reset or altered, where the parts do
-//! not show it.
+//! What calls did since the board was loaded, reset or altered, where the parts do not show it.
 
+use crate::access::DataAccess;
 use crate::calls::{Answer, Call};
 use crate::chain_calls::ChainCall;
 use crate::parts::Parts;
@@ -12,6 +12,8 @@ pub struct History {
     pub unhooked: BTreeSet<u32>,
     /// The hooked ones whose line register a write gave another value than is loaded.
     pub rewritten: BTreeSet<u32>,
+    /// The last data write, where no window was moved and no cell changed since.
+    pub written: Option<DataAccess>,
 }
 
 impl History {
@@ -26,7 +28,9 @@ impl History {
                 self.unhooked.insert(*handle);
                 self.rewritten.remove(handle);
             }
+            (Call::WriteData { access, .. }, 0) => self.written = Some(*access),
             (Call::WriteConfig { access, .. }, 0) => {
+                self.written = None;
                 let handle = access.handle;
                 let hooked = after.hook_entries().iter().any(|entry| entry[0] == handle);
                 if hooked && after.current_line(handle) != after.loaded_line(handle) {

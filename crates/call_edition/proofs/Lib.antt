@@ -1,0 +1,3 @@
+-- The laws of editions, and the rows.
+pub mod Meaning
+pub mod Rows
