@@ -17,6 +17,7 @@ use numbers::number::Width;
 use numbers::number::bytes_by_shift;
 use numbers::number::is_multiple_by_shift;
 use numbers::number::u32_at;
+use std::num::wrapping_sub_u32;
 use window::kept::base_of;
 use window::kept::handle_of;
 use window::kept::is_contested;
@@ -81,16 +82,17 @@ fn is_in(w: u64, space: Space) -> bool
     }
 }
 
-// Whether a kept number is a window of the function's own, in that space, that holds the address.
-// The handle is compared first, as it tells most windows apart.
+// Whether a kept number is a window of the function's own, in that space, that holds the address:
+// its distance from the start is less than the length. The handle is compared first, as it tells
+// most windows apart; the other tests stand as they were timed fastest.
 fn holds(w: u64, space: Space, handle: u32, address: u32) -> bool
     ensures { λ r. ⌜ r ≡ holds (spaceNumber space) handle address (unpack w) ⌝ }
 {
     let start = start_of(w);
-    let end = start as u64 + length_of(w) as u64;
+    let distance = wrapping_sub_u32(address, start);
     (handle_of(w) == handle)
-        & (is_in(w, space)
-            & ((base_of(w) < BASES as u32) & ((start <= address) & ((address as u64) < end))))
+        & ((base_of(w) < BASES as u32)
+            & (is_in(w, space) & ((start <= address) & (distance < length_of(w)))))
 }
 
 // Whether widths offer a width.
