@@ -1,8 +1,10 @@
 -- The rows, each computed.
 use mathlib.Core.Path.{refl}
+use Rattle.call_edition.specs.Edition.{namedBus}
 use Rattle.call_edition.specs.Rows.{CallEditionRows}
 
 pub call-edition-rows : CallEditionRows
+unfolding namedBus
 call-edition-rows =
     record {
       known = refl;
@@ -15,4 +17,5 @@ call-edition-rows =
       draftAddresses = refl;
       smallOffset = refl;
       laterAddresses = refl;
+      namedAddresses = refl;
     }

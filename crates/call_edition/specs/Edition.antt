@@ -6,6 +6,8 @@ use lib.Dec.{eqb}
 use Rattle.board.specs.Addresses.{bus, cpu, busAddress}
 use Rattle.board.specs.declared.address.BusAddress.{BusAddress}
 use Rattle.call_edition.specs.declared.edition.InEdition.{InEdition}
+use Rattle.call_edition.specs.declared.edition.NamedBus.{NamedBus}
+use Rattle.call_edition.specs.declared.edition.NamedBus.the-variants.{At, UnknownEdition}
 
 -- a number in an edition
 abbrev pub inEdition : ℕ → ℕ → InEdition
@@ -42,3 +44,7 @@ classOf class = cond (isDraft class) (class .number % 2 ^ 24) (class .number)
 abbrev pub busOf : ℕ → InEdition → BusAddress
 busOf offset address =
     cond (isDraft address) (busAddress offset (cpu (address .number))) (bus (address .number))
+
+-- what a data call names: that, where its edition is known
+unfoldable pub namedBus : ℕ → InEdition → NamedBus
+namedBus offset address = cond (isKnown address) (At (busOf offset address)) UnknownEdition

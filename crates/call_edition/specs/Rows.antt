@@ -14,7 +14,9 @@ use Rattle.call_edition.specs.Edition.{
   idOf,
   classOf,
   busOf,
+  namedBus,
 }
+use Rattle.call_edition.specs.declared.edition.NamedBus.the-variants.{At, UnknownEdition}
 
 pub record CallEditionRows : Type 0 where
   -- 1 is draft 1.9, 2 the later text, any other number is refused; 102h is not 2
@@ -57,3 +59,7 @@ pub record CallEditionRows : Type 0 where
   pub laterAddresses :
       map (λ n. busOf 0xF0000000 (inLater n)) (0x700003FC ∷ 0x800003FC ∷ [])
       ≡ bus 0x700003FC ∷ bus 0x800003FC ∷ []
+  -- a data call names none in an edition that is not known
+  pub namedAddresses :
+      map (λ e. namedBus 0x400 (inEdition 0x400 e)) (0 ∷ 1 ∷ 2 ∷ 3 ∷ 0x102 ∷ [])
+      ≡ UnknownEdition ∷ At (bus 0x0) ∷ At (bus 0x400) ∷ UnknownEdition ∷ UnknownEdition ∷ []

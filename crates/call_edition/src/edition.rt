@@ -15,13 +15,20 @@ ghost use Rattle.call_edition.specs.Edition.{
   isBadVendor,
   idOf,
   classOf,
-  busOf,
+  namedBus,
 };
 
 // A number as its caller names it, with the call's edition.
 pub struct InEdition {
     pub number: u32,
     pub edition: u32,
+}
+
+// What a data call names: an address on the bus, where its edition is known.
+pub enum NamedBus {
+    At(BusAddress),
+    // -2.
+    UnknownEdition,
 }
 
 // The editions that are known.
@@ -80,12 +87,17 @@ pub fn class_of(class: InEdition) -> u32
 }
 
 // The bus address that a caller names to a handle: in draft 1.9 by the CPU address, which is above
-// it by the function's offset.
-pub fn bus_of(records: &Records, handle: u32, address: InEdition) -> BusAddress
-    ensures { λ r. ⌜ r ≡ busOf (offset (now (records .entry)) (handle - 1)) address ⌝ }
+// it by the function's offset. The later text is tested first: its data calls are to take no longer
+// than they did before there were editions.
+pub fn bus_of(records: &Records, handle: u32, address: InEdition) -> NamedBus
+    ensures { λ r. ⌜ r ≡ namedBus (offset (now (records .entry)) (handle - 1)) address ⌝ }
 {
-    if address.edition != DRAFT_1_9 {
-        return BusAddress::of(address.number);
+    if address.edition == LATER_TEXT {
+        return NamedBus::At(BusAddress::of(address.number));
     }
-    CpuAddress::of(address.number).to_bus(offset(records, place(handle)))
+    if address.edition != DRAFT_1_9 {
+        return NamedBus::UnknownEdition;
+    }
+    let cpu = CpuAddress::of(address.number);
+    NamedBus::At(cpu.to_bus(offset(records, place(handle))))
 }

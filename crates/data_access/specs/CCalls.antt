@@ -5,6 +5,7 @@ use Prim.Native.Nat.{ℕ}
 use mathlib.Core.Bool.{true, cond}
 use mathlib.Core.List.{List}
 use Rattle.numbers.specs.Numbers.{bytes}
+use Rattle.board.specs.Reads.{refusedFast}
 use Rattle.board.specs.Statuses.{funcNotSupported, generalError}
 use Rattle.board.specs.declared.read.Read.{Read}
 use Rattle.board.specs.declared.read.FastRead.{FastRead}
@@ -32,12 +33,16 @@ cReadData (Known width) header records windows offsets cells space handle addres
 cReadData Other header records windows offsets cells space handle address =
     record { status = otherWidth address; value = 0 }
 
+-- a fast read that is refused: all ones of its width, of 4 bytes where it is none
+abbrev pub noFastRead : CWidth → FastRead
+noFastRead (Known width) = refusedFast (bytes width)
+noFastRead Other = record { value = 0xFFFFFFFF; fault = true }
+
 abbrev pub cFastReadData : CWidth → List ℕ → List ℕ → List ℕ → List ℕ → List ℕ → ℕ → ℕ → InEdition
     → FastRead
 cFastReadData (Known width) header records windows offsets cells space handle address =
     fastReadData (bytes width) header records windows offsets cells space handle address
-cFastReadData Other header records windows offsets cells space handle address =
-    record { value = 0xFFFFFFFF; fault = true }
+cFastReadData Other header records windows offsets cells space handle address = noFastRead Other
 
 abbrev pub cWriteData : CWidth → List ℕ → List ℕ → List ℕ → List ℕ → List ℕ → ℕ → ℕ → InEdition
     → ℕ → DataWritten

@@ -1,9 +1,9 @@
 // Data calls as C asks for them, with numbers for widths and spaces. They do not call those of
-// `data` but are put together from the same parts: the edition (`is_known`), the bus address
-// (`bus_of`), the window there (`find_window`), its cells (`cell_target_of`) and the access. The
-// compiler then moves all of them into the function for C; a call of `read_data`, `cell_target` or
-// `find_named` would stay one. Once the width is known the definitions are those of `data`; another
-// width is refused after an unknown edition and before all else.
+// `data` but are put together from the same parts: the bus address by the edition (`bus_of`), the
+// window there (`find_window`), its cells (`cell_target_of`) and the access. The compiler then
+// moves all of them into the function for C; a call of `read_data`, `cell_target` or `find_named`
+// would stay one. The edition is tested before all else, and then the width; from there on the
+// definitions are those of `data`.
 use crate::at_cells::fast_read_at;
 use crate::at_cells::read_at;
 use crate::at_cells::write_at;
@@ -19,10 +19,9 @@ use board::read::FastRead;
 use board::read::Read;
 use board::read::refused_fast;
 use board::status::Status;
-use call_edition::edition::InEdition;
+use call_edition::edition::NamedBus;
 use call_edition::edition::bus_of;
 use call_edition::edition::in_edition;
-use call_edition::edition::is_known;
 use data_cells::target::cell_target_of;
 use data_window::find::data_address;
 use data_window::find::find_window;
@@ -31,21 +30,19 @@ ghost use Rattle.board.specs.Spaces.{spaceNumber};
 ghost use Rattle.board.specs.FromC.{widthFromC, spaceFromC};
 ghost use Rattle.data_access.specs.Data.{dataWritten};
 ghost use Rattle.call_edition.specs.Edition.{inEdition};
-ghost use Rattle.data_access.specs.CCalls.{
-  otherWidth,
-  cReadData,
-  cFastReadData,
-  cWriteData,
-};
+ghost use Rattle.data_access.specs.CCalls.{cReadData, noFastRead, cFastReadData, cWriteData};
 
-// The number of a width that is none.
-fn other_width(address: InEdition) -> Status
-    ensures { λ r. ⌜ r ≡ otherWidth address ⌝ }
+// A fast read that is refused, before anything is looked for.
+fn no_fast_read(width: u32) -> FastRead
+    ensures { λ r. ⌜ r ≡ noFastRead (widthFromC width) ⌝ }
 {
-    if is_known(address) {
-        return Status::GENERAL_ERROR;
+    match width_from_c(width) {
+        CWidth::Known(width) => refused_fast(width),
+        CWidth::Other => FastRead {
+            value: 0xFFFFFFFF,
+            fault: true,
+        },
     }
-    Status::FUNC_NOT_SUPPORTED
 }
 
 // Reads a number of a width in a window.
@@ -66,24 +63,23 @@ pub fn c_read_data(
         (now (cells .entry)) (spaceNumber (spaceFromC io)) handle
         (inEdition address edition) ⌝ }
 {
-    let named = in_edition(address, edition);
-    match width_from_c(width) {
-        CWidth::Known(width) => {
-            if !is_known(named) {
-                return Read {
-                    status: Status::FUNC_NOT_SUPPORTED,
-                    value: 0,
-                };
+    match bus_of(records, handle, in_edition(address, edition)) {
+        NamedBus::At(bus) => match width_from_c(width) {
+            CWidth::Known(width) => {
+                let at = data_address(space_from_c(io), width, handle, bus);
+                let finding = find_window(header, records, windows, offsets, cells.len(), at);
+                let function = place_of_handle(handle);
+                let room = cells.len();
+                let target = cell_target_of(records, offsets, room, width, function, finding);
+                read_at(cells, width, target)
             }
-            let bus = bus_of(records, handle, named);
-            let at = data_address(space_from_c(io), width, handle, bus);
-            let finding = find_window(header, records, windows, offsets, cells.len(), at);
-            let function = place_of_handle(handle);
-            let target = cell_target_of(records, offsets, cells.len(), width, function, finding);
-            read_at(cells, width, target)
-        }
-        CWidth::Other => Read {
-            status: other_width(named),
+            CWidth::Other => Read {
+                status: Status::GENERAL_ERROR,
+                value: 0,
+            },
+        },
+        NamedBus::UnknownEdition => Read {
+            status: Status::FUNC_NOT_SUPPORTED,
             value: 0,
         },
     }
@@ -107,23 +103,19 @@ pub fn c_fast_read_data(
         (now (cells .entry)) (spaceNumber (spaceFromC io)) handle
         (inEdition address edition) ⌝ }
 {
-    let named = in_edition(address, edition);
-    match width_from_c(width) {
-        CWidth::Known(width) => {
-            if !is_known(named) {
-                return refused_fast(width);
+    match bus_of(records, handle, in_edition(address, edition)) {
+        NamedBus::At(bus) => match width_from_c(width) {
+            CWidth::Known(width) => {
+                let at = data_address(space_from_c(io), width, handle, bus);
+                let finding = find_window(header, records, windows, offsets, cells.len(), at);
+                let function = place_of_handle(handle);
+                let room = cells.len();
+                let target = cell_target_of(records, offsets, room, width, function, finding);
+                fast_read_at(cells, width, target)
             }
-            let bus = bus_of(records, handle, named);
-            let at = data_address(space_from_c(io), width, handle, bus);
-            let finding = find_window(header, records, windows, offsets, cells.len(), at);
-            let function = place_of_handle(handle);
-            let target = cell_target_of(records, offsets, cells.len(), width, function, finding);
-            fast_read_at(cells, width, target)
-        }
-        CWidth::Other => FastRead {
-            value: 0xFFFFFFFF,
-            fault: true,
+            CWidth::Other => no_fast_read(width),
         },
+        NamedBus::UnknownEdition => no_fast_read(width),
     }
 }
 
@@ -147,19 +139,18 @@ pub fn c_write_data(
         (now (cells .entry)) (spaceNumber (spaceFromC io)) handle
         (inEdition address edition) value ⌝ }
 {
-    let named = in_edition(address, edition);
-    match width_from_c(width) {
-        CWidth::Known(width) => {
-            if !is_known(named) {
-                return Status::FUNC_NOT_SUPPORTED;
+    match bus_of(records, handle, in_edition(address, edition)) {
+        NamedBus::At(bus) => match width_from_c(width) {
+            CWidth::Known(width) => {
+                let at = data_address(space_from_c(io), width, handle, bus);
+                let finding = find_window(header, records, windows, offsets, cells.len(), at);
+                let function = place_of_handle(handle);
+                let room = cells.len();
+                let target = cell_target_of(records, offsets, room, width, function, finding);
+                write_at(cells, width, value, target)
             }
-            let bus = bus_of(records, handle, named);
-            let at = data_address(space_from_c(io), width, handle, bus);
-            let finding = find_window(header, records, windows, offsets, cells.len(), at);
-            let function = place_of_handle(handle);
-            let target = cell_target_of(records, offsets, cells.len(), width, function, finding);
-            write_at(cells, width, value, target)
-        }
-        CWidth::Other => other_width(named),
+            CWidth::Other => Status::GENERAL_ERROR,
+        },
+        NamedBus::UnknownEdition => Status::FUNC_NOT_SUPPORTED,
     }
 }

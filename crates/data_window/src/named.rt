@@ -10,8 +10,8 @@ use board::layout::Records;
 use board::layout::Windows;
 use board::space::Space;
 use call_edition::edition::InEdition;
+use call_edition::edition::NamedBus;
 use call_edition::edition::bus_of;
-use call_edition::edition::is_known;
 use numbers::number::Width;
 ghost use mathlib.Core.Path.{_≡_};
 ghost use Rattle.board.specs.Spaces.{spaceNumber};
@@ -52,11 +52,11 @@ pub fn find_named(
 {
     let space = at.space;
     let width = at.width;
-    let address = at.address;
-    if !is_known(address) {
-        return Finding::Refused(DataRefusal::UnknownEdition);
+    match bus_of(records, at.handle, at.address) {
+        NamedBus::At(bus) => {
+            let on_bus = data_address(space, width, at.handle, bus);
+            find_window(header, records, windows, offsets, room, on_bus)
+        }
+        NamedBus::UnknownEdition => Finding::Refused(DataRefusal::UnknownEdition),
     }
-    let bus = bus_of(records, at.handle, address);
-    let on_bus = data_address(space, width, at.handle, bus);
-    find_window(header, records, windows, offsets, room, on_bus)
 }

@@ -1,10 +1,11 @@
--- `c_read_data`: what is at the target that a known width is for, or the refusal.
+-- `c_read_data`: what is at the target that a known width and edition are for, or the refusal.
 use mathlib.Core.Path.{refl, sym, _∙_}
-use borrow.Author.Tests.{not-true, not-false}
+use Rattle.board.specs.FromC.{widthFromC}
+use Rattle.call_edition.proofs.Named.{at-known, not-known}
 use Rattle.data_cells.proofs.Inside.{target-inside}
 use Rattle.data_access.specs.Data.{readAt}
 use Rattle.data_access.specs.CCalls.{cReadData}
-use Rattle.data_access.proofs.Known.{of-known, of-unknown}
+use Rattle.data_access.proofs.Known.{of-known, unknown-read}
 use borrow.Author.Needs.{needs}
 use Rattle.data_access.proofs.c_calls.c_read_data.Statement.{statement}
 use Rattle.data_access.proofs.c_calls.c_read_data.Tie as tie
@@ -12,22 +13,17 @@ use Rattle.data_access.proofs.c_calls.c_read_data.Tie as tie
 in-edition-requires : tie.Need-in-edition-requires
 in-edition-requires c κs = search needs
 
+bus-of-requires : tie.Need-bus-of-requires
+bus-of-requires c κs = search needs
+
+enum-known-bus : tie.Need-enum-known-bus
+enum-known-bus c = search needs
+
 width-from-c-requires : tie.Need-width-from-c-requires
 width-from-c-requires c κs = search needs
 
 enum-known-width : tie.Need-enum-known-width
 enum-known-width c = search needs
-
-is-known-requires : tie.Need-is-known-requires
-is-known-requires c κs = search needs
-
-returns : tie.Need-returns
-returns c =
-    of-unknown cReadData readAt (c .before .before .before .before .before .width-from-c .ensures) (c .before .before .before .width .given .1)
-    (rw (c .before .before .before .before .before .before .in-edition .ensures) at (sym (c .before .is-known .ensures) ∙ not-true _ (c .if1 .taken))) refl refl
-
-bus-of-requires : tie.Need-bus-of-requires
-bus-of-requires c κs = search needs
 
 space-from-c-requires : tie.Need-space-from-c-requires
 space-from-c-requires c κs = search needs
@@ -45,38 +41,51 @@ cell-target-of-requires : tie.Need-cell-target-of-requires
 cell-target-of-requires c κs = search needs
 
 read-at-requires : tie.Need-read-at-requires
-read-at-requires c κs at order e = target-inside _ _ _ _ _ at order (sym (c .cell-target-of .ensures) ∙ e)
+read-at-requires c κs at order e =
+    target-inside _ _ _ _ _ at order (sym (c .cell-target-of .ensures) ∙ e)
 
 enum-told : tie.Need-enum-told
 enum-told c = search needs
 
-other-width-requires : tie.Need-other-width-requires
-other-width-requires c κs = search needs
+enum-told-2 : tie.Need-enum-told-2
+enum-told-2 c = search needs
+
+returns : tie.Need-returns
+returns c =
+    let f = c .before .before .before in
+    let w = f .before .before .before .before in
+    let b = w .before .before .before .before in
+    of-known cReadData readAt (w .before .before .width-from-c .ensures) (w .width .given .1)
+    (f .before .before .space-from-c .ensures)
+    (rw (b .before .before .before .in-edition .ensures) at
+    (sym (b .before .before .bus-of .ensures) ∙ b .bus .given .1))
+    (rw (f .before .data-address .ensures) at (f .find-window .ensures))
+    (c .before .before .place-of-handle .ensures) (c .before .cell-target-of .ensures)
+    (c .read-at .ensures) refl
 
 returns-2 : tie.Need-returns-2
 returns-2 c =
-    let d = c .before in
-    let edition = d .before .before .before .before .before .before .before .before .before .before .before .before .in-edition .ensures in
-    let known = rw edition at (sym (d .before .before .before .before .before .before .before .is-known .ensures) ∙ not-false _ (d .before .before .before .before .before .before .if1 .left)) in
-    of-known cReadData readAt (d .before .before .before .before .before .before .before .before .before .before .before .width-from-c .ensures)
-    (d .before .before .before .before .before .before .before .before .before .width .given .1) (d .before .before .before .before .space-from-c .ensures)
-    (rw known (rw (d .before .before .before .data-address .ensures, d .before .before .before .before .before .bus-of .ensures, edition) at (d .before .before .find-window .ensures)))
-    (d .before .place-of-handle .ensures) (d .cell-target-of .ensures) (c .read-at .ensures) refl
+    let b = c .before .before .before .before in
+    let known = at-known _ _ _ (rw (b .before .before .before .in-edition .ensures) at
+    (sym (b .before .before .bus-of .ensures) ∙ b .bus .given .1)) in
+    rw (sym (c .before .before .width-from-c .ensures) ∙ c .enum-told .given .1, known .0)
 
 returns-3 : tie.Need-returns-3
 returns-3 c =
-    rw (sym (c .before .before .before .width-from-c .ensures) ∙ c .before .enum-told .given .1, c .other-width .ensures, c .before .before .before .before .in-edition .ensures)
+    let a = c .before .before .before .before .before .args in
+    unknown-read (widthFromC (a .width)) _ _ _ _ _ _ _ _
+    (not-known _ _ (rw (c .before .before .before .in-edition .ensures) at
+    (sym (c .before .before .bus-of .ensures) ∙ c .enum-told2 .given .1)))
 
 pub c-read-data-spec : {M : Type 1} → statement M
 c-read-data-spec =
     tie.close
     (tie.spec
     in-edition-requires
+    bus-of-requires
+    enum-known-bus
     width-from-c-requires
     enum-known-width
-    is-known-requires
-    returns
-    bus-of-requires
     space-from-c-requires
     data-address-requires
     find-window-requires
@@ -84,6 +93,7 @@ c-read-data-spec =
     cell-target-of-requires
     read-at-requires
     enum-told
-    other-width-requires
+    enum-told-2
+    returns
     returns-2
     returns-3)
