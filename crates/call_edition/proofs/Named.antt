@@ -7,10 +7,10 @@ use Rattle.call_edition.specs.Edition.{isKnown, busOf, namedBus}
 use Rattle.call_edition.specs.declared.edition.InEdition.{InEdition}
 use Rattle.call_edition.specs.declared.edition.NamedBus.the-variants.{At, UnknownEdition}
 
-pub at-known : (offset : ℕ) (address : InEdition) (b : BusAddress) → namedBus offset address ≡ At b
+pub named-known : (offset : ℕ) (address : InEdition) (b : BusAddress) → namedBus offset address ≡ At b
     → (isKnown address ≡ true) × (busOf offset address ≡ b)
 unfolding namedBus
-at-known offset address b = by (isKnown address) refl
+named-known offset address b = by (isKnown address) refl
   where
     by : (k : Bool) → isKnown address ≡ k
         → cond k (At (busOf offset address)) UnknownEdition ≡ At b
@@ -18,10 +18,10 @@ at-known offset address b = by (isKnown address) refl
     by true k e = (k, cc)
     by false k e = absurd (true≢false cc)
 
-pub not-known : (offset : ℕ) (address : InEdition) → namedBus offset address ≡ UnknownEdition
+pub named-unknown : (offset : ℕ) (address : InEdition) → namedBus offset address ≡ UnknownEdition
     → isKnown address ≡ false
 unfolding namedBus
-not-known offset address = by (isKnown address) refl
+named-unknown offset address = by (isKnown address) refl
   where
     by : (k : Bool) → isKnown address ≡ k
         → cond k (At (busOf offset address)) UnknownEdition ≡ UnknownEdition

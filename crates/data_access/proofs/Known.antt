@@ -20,7 +20,7 @@ use Rattle.board.specs.declared.from_c.CWidth.the-variants.{Known, Other}
 use Rattle.call_edition.specs.Edition.{isKnown, namedBus}
 use Rattle.call_edition.specs.declared.edition.InEdition.{InEdition}
 use Rattle.call_edition.specs.declared.edition.NamedBus.the-variants.{At}
-use Rattle.call_edition.proofs.Named.{at-known}
+use Rattle.call_edition.proofs.Named.{named-known}
 use Rattle.data_window.specs.declared.find.Finding.{Finding}
 use Rattle.data_window.specs.Find.{findIn, findNamed}
 use Rattle.data_cells.specs.declared.target.CellTarget.{CellTarget}
@@ -54,7 +54,7 @@ pub of-known : {A : Type 0} (call : CWidth → Call A) (access : ℕ → List �
 of-known call access {header = header} {records = records} {windows = windows} {offsets = offsets}
     {cells = cells} {width = width} {space = space} {handle = handle} {address = address}
     {bus = bus} {finding = finding} decodes known spaced named found place reached e same =
-    let k = at-known (offset records (handle - 1)) address bus named in
+    let k = named-known (offset records (handle - 1)) address bus named in
     let window : finding ≡ findNamed (bytes width) header records windows offsets (length cells)
     (spaceNumber space) handle address
     = rw (k .0, k .1) found in

@@ -1,7 +1,7 @@
 -- `c_fast_read_data`: what is at the target that a known width and edition are for, or the refusal.
 use mathlib.Core.Path.{refl, sym, _∙_}
 use Rattle.board.specs.FromC.{widthFromC}
-use Rattle.call_edition.proofs.Named.{not-known}
+use Rattle.call_edition.proofs.Named.{named-unknown}
 use Rattle.data_cells.proofs.Inside.{target-inside}
 use Rattle.data_access.specs.Data.{fastReadAt}
 use Rattle.data_access.specs.CCalls.{cFastReadData}
@@ -82,7 +82,7 @@ returns-3 c =
     let a = b .before .before .before .before .before .args in
     c .no-fast-read2 .ensures
     ∙ unknown-fast (widthFromC (a .width)) _ _ _ _ _ _ _ _
-    (not-known _ _ (rw (b .before .before .before .in-edition .ensures) at
+    (named-unknown _ _ (rw (b .before .before .before .in-edition .ensures) at
     (sym (b .before .before .bus-of .ensures) ∙ b .enum-told2 .given .1)))
 
 pub c-fast-read-data-spec : {M : Type 1} → statement M

@@ -1,7 +1,7 @@
 -- `c_write_data`: what is at the target that a known width and edition are for, or the refusal.
 use mathlib.Core.Path.{refl, sym, _∙_}
 use Rattle.board.specs.FromC.{widthFromC}
-use Rattle.call_edition.proofs.Named.{at-known, not-known}
+use Rattle.call_edition.proofs.Named.{named-known, named-unknown}
 use Rattle.data_cells.proofs.Inside.{target-inside}
 use Rattle.data_access.specs.Data.{writeAt}
 use Rattle.data_access.specs.CCalls.{cWriteData}
@@ -72,7 +72,7 @@ returns c =
 returns-2 : tie.Need-returns-2
 returns-2 c =
     let b = c .before .before .before .before in
-    let known = at-known _ _ _ (rw (b .before .before .before .in-edition .ensures) at
+    let known = named-known _ _ _ (rw (b .before .before .before .in-edition .ensures) at
     (sym (b .before .before .bus-of .ensures) ∙ b .bus .given .1)) in
     rw (sym (c .before .before .width-from-c .ensures) ∙ c .enum-told .given .1, known .0)
 
@@ -80,7 +80,7 @@ returns-3 : tie.Need-returns-3
 returns-3 c =
     let a = c .before .before .before .before .before .args in
     unknown-write (widthFromC (a .width)) _ _ _ _ _ _ _ _ _
-    (not-known _ _ (rw (c .before .before .before .in-edition .ensures) at
+    (named-unknown _ _ (rw (c .before .before .before .in-edition .ensures) at
     (sym (c .before .before .bus-of .ensures) ∙ c .enum-told2 .given .1)))
 
 pub c-write-data-spec : {M : Type 1} → statement M

@@ -1,11 +1,12 @@
 -- `holds`: field by field; from the start on the distance is below the length where the address is
 -- below the end.
-use Prim.Native.Nat.{ℕ, _+_, _%_, _^_, _<_}
+use Prim.Native.Nat.{ℕ, suc, _+_, _%_, _^_, _<_}
 use native.Mathlib.Omega.{arith}
 use mathlib.Core.Bool.{Bool, true, false, _&&_}
-use mathlib.Core.Path.{_≡_, refl, sym}
+use mathlib.Core.Path.{_≡_, refl}
 use lib.Dec.{eqb, leb, ltb}
-use borrow.Author.Tests.{leb-true, ltb-true, ltb-false, lt-ltb, le-ltb}
+use borrow.Author.Tests.{leb-true}
+use Rattle.numbers.proofs.Tests.{leb-same}
 use Rattle.board.specs.Layout.{bases}
 use Rattle.window.specs.Kept.{unpack}
 use Rattle.board.specs.Spaces.{spaceNumber}
@@ -31,18 +32,10 @@ where-so false same = refl
 before-end : (start address distance length : ℕ) → distance < 2 ^ 32 → start < 2 ^ 32
     → (distance + start) % 2 ^ 32 ≡ address → leb start address ≡ true
     → ltb distance length ≡ ltb address (start + length)
-before-end start address distance length d s wraps from = by (ltb distance length) refl
-  where
-    sum : address ≡ distance + start
-    sum = let h = leb-true start address from in omega arith
-
-    by : (b : Bool) → ltb distance length ≡ b → b ≡ ltb address (start + length)
-    by true e =
-        let h = ltb-true distance length e in
-        rw sum (sym (lt-ltb (distance + start) (start + length) (omega arith)))
-    by false e =
-        let h = ltb-false distance length e in
-        rw sum (sym (le-ltb (distance + start) (start + length) (omega arith)))
+before-end start address distance length d s wraps from =
+    let h = leb-true start address from in
+    let sum : address ≡ distance + start = omega arith in
+    leb-same (suc distance) length (suc address) (start + length) (λ l. omega arith) (λ l. omega arith)
 
 start-of-requires : tie.Need-start-of-requires
 start-of-requires c κs = search needs
