@@ -9,7 +9,7 @@ use mathlib.Core.Path.{_≡_, refl, sym, _∙_, ap}
 use lib.Dec.{leb, ltb}
 use borrow.Author.Tests.{le-leb, lt-ltb, leb-true, ltb-true}
 use Rattle.board.specs.Handles.{isHandle}
-use Rattle.board.specs.Layout.{registersEach}
+use Rattle.board.specs.Layout.{registersEach, maskByte}
 use Rattle.numbers.proofs.Tests.{both-true}
 use Rattle.window_list.specs.Kept.{keptList}
 use Rattle.window_list.specs.Meaning.{Watched}
@@ -18,7 +18,7 @@ use Rattle.window_list.proofs.Meaning.{list-depends-on}
 use Rattle.config_read.specs.declared.target.Target.{Target}
 use Rattle.config_read.specs.declared.target.Target.the-variants.{Function, Refused}
 use Rattle.config_read.specs.Target.{target}
-use Rattle.config_write.specs.Write.{bytesWritten, movesWindows, writeTo}
+use Rattle.config_write.specs.Write.{clearMaskByte, registersWritten, movesWindows, writeTo}
 use Rattle.config_write.specs.Meaning.{MovesWindows, ListFollows}
 use Rattle.config_read.proofs.Targets.{inside-registers}
 use Rattle.config_write.proofs.Written.{written-elsewhere}
@@ -67,12 +67,13 @@ kept-same false l m f = f refl
 list-after : (w : ℕ) (header records registers windows : List ℕ) (i register value : ℕ) → register + w ≤ registersEach
     → windows ≡ keptList (windowList header records registers)
     → writeTo header records registers windows w register value (Function i) .windows
-    ≡ keptList (windowList header records (bytesWritten w records i register value registers))
+    ≡ keptList (windowList header records (registersWritten w records i register value registers))
 list-after w header records registers windows i register value h e =
-    let after = bytesWritten w records i register value registers in
+    let after = registersWritten w records i register value registers in
     kept-same (movesWindows w register) (keptList (windowList header records after)) windows
     (λ m. e ∙ ap keptList (list-depends-on header header records records registers after refl (λ j b l k. refl)
-    (λ j at l k. sym (written-elsewhere records i w register value registers j at h (watched-inside at k)
+    (λ j at l k. sym (written-elsewhere (maskByte records i) (clearMaskByte records i) i w register value registers
+    j at h (watched-inside at k)
     (λ _ f t. false≢true (sym m ∙ watched-moves w register at k f t))))))
 
 -- THEOREM: a kept list that is the list of its board stays so

@@ -16,31 +16,33 @@ use Rattle.window_list.specs.Meaning.{Watched}
 use Rattle.window_list.specs.Windows.{windowList}
 use Rattle.config_read.specs.declared.target.Target.the-variants.{Function}
 use Rattle.config_read.specs.Target.{target}
-use Rattle.config_write.specs.Write.{written, bytesWritten, movesWindows, writeConfig}
+use Rattle.config_masked.specs.Masked.{written}
+use Rattle.config_write.specs.Write.{clearMask, bytesWritten, movesWindows, writeConfig}
 
 -- bit by bit: the written bit where the mask has 1, else the one that stood there
 abbrev pub MaskedBits : Type 0
 MaskedBits =
-    (register mask old new b : ℕ) → mask < 256 → b < 8
-    → bit b (written register mask old new) ≡ cond (bit b mask) (bit b new) (bit b old)
+    (register mask old new b : ℕ) → mask < 256 → new < 256 → b < 8
+    → bit b (written mask (clearMask register mask) old new)
+    ≡ cond (bit b mask) (bit b new) (bit b old)
 
 -- register `at` of the function at place j after w bytes are written: each addressed byte follows
--- its own mask, and nothing else changes
-pub record WrittenThrough (w : ℕ) (records : List ℕ) (i register value : ℕ)
+-- its own masks, and nothing else changes
+pub record WrittenThrough (w : ℕ) (mask clear : ℕ → ℕ) (i register value : ℕ)
     (registers : List ℕ) : Type 0 where
-  pub room : length (bytesWritten w records i register value registers) ≡ length registers
+  pub room : length (bytesWritten w mask clear i register value registers) ≡ length registers
   pub byte : (j at : ℕ) → at < registersEach
-      → registerByte (bytesWritten w records i register value registers) j at
+      → registerByte (bytesWritten w mask clear i register value registers) j at
       ≡ cond (eqb j i && (leb register at && ltb at (register + w)))
-      (written at
-      (maskByte records i at) (registerByte registers i at) (value / 256 ^ (at - register) % 256))
+      (written (mask at) (clear at)
+      (registerByte registers i at) (value / 256 ^ (at - register) % 256))
       (registerByte registers j at)
 
 abbrev pub MaskedWrite : Type 0
 MaskedWrite =
-    (w : ℕ) (records : List ℕ) (i register value : ℕ) (registers : List ℕ)
+    (w : ℕ) (mask clear : ℕ → ℕ) (i register value : ℕ) (registers : List ℕ)
     → register + w ≤ registersEach → registersEach * (i + 1) ≤ length registers
-    → WrittenThrough w records i register value registers
+    → WrittenThrough w mask clear i register value registers
 
 -- a write to read-only bits succeeds: it gives 0 and leaves the registers
 abbrev pub ReadOnly : Type 0

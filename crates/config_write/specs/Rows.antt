@@ -8,8 +8,9 @@ use mathlib.Core.Path.{_≡_}
 use lib.IntN.{pos}
 use lib.ListN.{replicate}
 use Rattle.board.specs.Statuses.{minus}
+use Rattle.config_masked.specs.Masked.{written}
 use Rattle.config_write.specs.Write.{
-  written,
+  clearMask,
   movesWindows,
   ConfigWritten,
   configWritten,
@@ -19,7 +20,8 @@ use Rattle.config_write.specs.Write.{
 -- byte 5Ah after a write of C3h at a register, through masks 00h, FFh, 0Fh and F0h
 abbrev throughMasks : ℕ → List ℕ
 throughMasks register =
-    map (λ mask. written register mask 0x5A 0xC3) (0x00 ∷ 0xFF ∷ 0x0F ∷ 0xF0 ∷ [])
+    map (λ mask. written mask (clearMask register mask) 0x5A 0xC3)
+    (0x00 ∷ 0xFF ∷ 0x0F ∷ 0xF0 ∷ [])
 
 -- boards of so many functions, of which handle 2 has four bytes from 40h on with the same masks,
 -- each byte its own; and a kept list of one number

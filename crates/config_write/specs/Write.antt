@@ -3,7 +3,6 @@
 use Prim.Native.Nat.{ℕ, zero, suc, _+_, _-_, _*_, _/_, _%_}
 use mathlib.Core.Bool.{Bool, cond, _&&_, _||_}
 use mathlib.Core.List.{List}
-use lib.Bits.{bitAnd, bitOr}
 use lib.Dec.{leb, ltb}
 use lib.ListN.{set}
 use Rattle.board.specs.Handles.{isHandle}
@@ -15,24 +14,33 @@ use Rattle.window_list.specs.Windows.{windowList}
 use Rattle.config_read.specs.declared.target.Target.{Target}
 use Rattle.config_read.specs.declared.target.Target.the-variants.{Function, Refused}
 use Rattle.config_read.specs.Target.{target}
+use Rattle.config_masked.specs.Masked.{written}
 
--- the byte at a register after a write: the written bits where its mask has 1, the rest kept; so
--- for every register
-abbrev pub written : ℕ → ℕ → ℕ → ℕ → ℕ
-written register mask old new = bitOr (bitAnd new mask) (bitAnd old (255 - mask))
+-- the clear mask of a register with a mask: no register is cleared by writing
+abbrev pub clearMask : ℕ → ℕ → ℕ
+clearMask register mask = 0
 
--- the registers after one byte of the function at place i is written
-abbrev pub byteWritten : List ℕ → ℕ → ℕ → ℕ → List ℕ → List ℕ
-byteWritten records i register new registers =
+-- the clear mask of a register of the function at place i
+abbrev pub clearMaskByte : List ℕ → ℕ → ℕ → ℕ
+clearMaskByte records i register = clearMask register (maskByte records i register)
+
+-- the registers after one byte of the function at place i is written; its masks, by register
+abbrev pub byteWritten : (ℕ → ℕ) → (ℕ → ℕ) → ℕ → ℕ → ℕ → List ℕ → List ℕ
+byteWritten mask clear i register new registers =
     set registers (registersEach * i + register)
-    (written register (maskByte records i register) (registerByte registers i register) new)
+    (written (mask register) (clear register) (registerByte registers i register) new)
 
 -- the registers after the w low bytes of a value are written, little-endian
-unfoldable pub bytesWritten : ℕ → List ℕ → ℕ → ℕ → ℕ → List ℕ → List ℕ
-bytesWritten zero records i register value registers = registers
-bytesWritten (suc w) records i register value registers =
-    bytesWritten w records i (register + 1) (value / 256)
-    (byteWritten records i register (value % 256) registers)
+unfoldable pub bytesWritten : ℕ → (ℕ → ℕ) → (ℕ → ℕ) → ℕ → ℕ → ℕ → List ℕ → List ℕ
+bytesWritten zero mask clear i register value registers = registers
+bytesWritten (suc w) mask clear i register value registers =
+    bytesWritten w mask clear i (register + 1) (value / 256)
+    (byteWritten mask clear i register (value % 256) registers)
+
+-- each byte through the masks of its own register
+abbrev pub registersWritten : ℕ → List ℕ → ℕ → ℕ → ℕ → List ℕ → List ℕ
+registersWritten w records i register value registers =
+    bytesWritten w (maskByte records i) (clearMaskByte records i) i register value registers
 
 -- whether w bytes from a register on hold one of 04h or 10h-27h
 abbrev pub movesWindows : ℕ → ℕ → Bool
@@ -53,7 +61,7 @@ configWritten status registers windows =
 -- a write to the function at a place; a refused one leaves everything
 abbrev pub writeTo : List ℕ → List ℕ → List ℕ → List ℕ → ℕ → ℕ → ℕ → Target → ConfigWritten
 writeTo header records registers windows w register value (Function i) =
-    let after = bytesWritten w records i register value registers in
+    let after = registersWritten w records i register value registers in
     configWritten successful after
     (cond (movesWindows w register) (keptList (windowList header records after)) windows)
 writeTo header records registers windows w register value (Refused s) =

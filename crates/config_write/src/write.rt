@@ -10,6 +10,7 @@ use board::layout::Windows;
 use board::layout::mask_byte;
 use board::layout::register_byte;
 use board::status::Status;
+use config_masked::byte::written;
 use config_read::target::Target;
 use config_read::target::target_of;
 use numbers::number::Width;
@@ -18,12 +19,13 @@ use numbers::number::put_byte;
 use window_list::refresh::refresh;
 ghost use mathlib.Core.Path.{_≡_};
 ghost use Prim.Native.Nat.{_+_, _≤_};
-ghost use Rattle.board.specs.Layout.{registersEach};
+ghost use Rattle.board.specs.Layout.{registersEach, maskByte};
 ghost use Rattle.numbers.specs.Numbers.{bytes};
 ghost use Rattle.config_write.specs.Write.{
-  written,
+  clearMask,
+  clearMaskByte,
   byteWritten,
-  bytesWritten,
+  registersWritten,
   movesWindows,
   configWritten,
   writeConfig,
@@ -32,23 +34,25 @@ ghost use Rattle.config_write.specs.Write.{
 // The register after the base registers.
 const BASES_END: u8 = 0x28;
 
-// A byte after a write at a register: the written bits where the mask has 1, the rest kept. Which
-// register it is plays no part; later requests tell some apart.
-fn written(register: u8, mask: u8, old: u8, new: u8) -> u8
-    ensures { λ r. ⌜ r ≡ written register mask old new ⌝ }
+// The bits of a register with a mask that are cleared by writing 1.
+fn clear_mask(register: u8, mask: u8) -> u8
+    ensures { λ r. ⌜ r ≡ clearMask register mask ⌝ }
 {
-    (new & mask) | (old & !mask)
+    0
 }
 
-// Writes one byte through its mask.
+// Writes one byte through its masks.
 fn write_byte(records: &Records, registers: &mut Registers, function: u32, register: u8, new: u8)
     ensures { λ _. ⌜ now (registers .exit)
-        ≡ byteWritten (now (records .entry)) function register new (now (registers .entry)) ⌝ }
+        ≡ byteWritten (maskByte (now (records .entry)) function)
+        (clearMaskByte (now (records .entry)) function) function register new
+        (now (registers .entry)) ⌝ }
 {
     let mask = mask_byte(records, function, register);
+    let clear = clear_mask(register, mask);
     let old = register_byte(registers, function, register);
     let at = REGISTER_BYTES * (function as usize) + register as usize;
-    put_byte(registers, at, written(register, mask, old, new));
+    put_byte(registers, at, written(mask, clear, old, new));
 }
 
 // Writes the low bytes of a value from a register on, least byte first.
@@ -62,7 +66,7 @@ fn write_bytes(
 )
     requires { ⌜ register + bytes width ≤ registersEach ⌝ }
     ensures { λ _. ⌜ now (registers .exit)
-        ≡ bytesWritten (bytes width) (now (records .entry)) function register value
+        ≡ registersWritten (bytes width) (now (records .entry)) function register value
         (now (registers .entry)) ⌝ }
 {
     let w = bytes(width);

@@ -11,16 +11,28 @@ use lib.Seq.{ext-getD}
 use Rattle.numbers.specs.Numbers.{byteAt, little, big}
 use Rattle.numbers.specs.Tables.{table}
 use Rattle.board.specs.Handles.{headerOf}
-use Rattle.board.specs.Layout.{functionsMax, bases, recordSize, masksAt, entriesAt, entrySize, registersEach, recordByte, exponent, registerByte}
+use Rattle.board.specs.Layout.{
+  functionsMax,
+  bases,
+  recordSize,
+  masksAt,
+  entriesAt,
+  entrySize,
+  registersEach,
+  recordByte,
+  maskByte,
+  exponent,
+  registerByte,
+}
 use Rattle.numbers.proofs.Numbers.{little-same, big-same}
 use Rattle.numbers.proofs.Tables.{table-length, table-get}
 use Rattle.window_list.specs.Windows.{listOf, windowList}
 use Rattle.window_list.proofs.Meaning.{list-same}
-use Rattle.config_write.specs.Write.{bytesWritten}
+use Rattle.config_write.specs.Write.{clearMaskByte, registersWritten}
 use Rattle.config_write.proofs.Written.{masked-write}
 use Rattle.load.specs.Load.{padded}
 use Rattle.load.proofs.Lists.{zeros-after}
-use Rattle.reference.specs.Reference.{Reference, recordOf, exponentOf, joined, registersAfter}
+use Rattle.reference.specs.Reference.{Reference, recordOf, exponentOf, joined, maskOf, registersAfter}
 use Rattle.reference.proofs.Records.{Sized, joined-byte}
 
 -- registers by function and number, one function's after another's
@@ -65,6 +77,10 @@ module _ (rs : List (List ℕ)) (s : Sized rs) where
       let e : entriesAt + entrySize * b + 0 ≡ entriesAt + entrySize * b = omega arith in
       rw e (kept-byte i (entriesAt + entrySize * b) (omega arith))
 
+  -- the masks of a register
+  kept-mask : (i at : ℕ) → at < registersEach → maskByte (padded (joined rs)) i at ≡ maskOf rs i at
+  kept-mask i at h = kept-byte i (masksAt + at) (omega arith)
+
   pub list-kept : (r : ℕ → ℕ → ℕ) → length rs ≤ functionsMax
       → windowList (headerOf (length rs)) (padded (joined rs)) (flat r) ≡ listOf (length rs) (exponentOf rs) r
   list-kept r h =
@@ -75,10 +91,15 @@ module _ (rs : List (List ℕ)) (s : Sized rs) where
 
 -- what a write through the masks leaves
 pub written-same : (b : Reference) → Sized (b .records) → (w i register value : ℕ) → i < functionsMax → register + w ≤ registersEach
-    → bytesWritten w (padded (joined (b .records))) i register value (flat (b .registers)) ≡ flat (registersAfter b w i register value)
+    → registersWritten w (padded (joined (b .records))) i register value (flat (b .registers))
+    ≡ flat (registersAfter b w i register value)
 written-same b s w i register value h k =
     let size = table-length 0 (functionsMax * registersEach) (λ j. b .registers (j / registersEach) (j % registersEach)) in
-    let t = masked-write w (padded (joined (b .records))) i register value (flat (b .registers)) k (omega (arith, size)) in
+    let records = padded (joined (b .records)) in
+    let t =
+    masked-write w (maskByte records i) (clearMaskByte records i) i register value (flat (b .registers)) k
+    (omega (arith, size))
+    in
     flat-is (registersAfter b w i register value) _ (t .room ∙ size) (λ j at l m.
     t .byte j at m
-    ∙ rw (kept-byte (b .records) s i (masksAt + at) (omega arith), flat-byte (b .registers) i at h m, flat-byte (b .registers) j at l m))
+    ∙ rw (kept-mask (b .records) s i at m, flat-byte (b .registers) i at h m, flat-byte (b .registers) j at l m))

@@ -41,7 +41,7 @@ use Rattle.window_list.specs.Windows.{listOf}
 use Rattle.window_listing.specs.Listing.{listedNumber, listedValues}
 use Rattle.config_read.specs.Target.{target}
 use Rattle.config_read.specs.Read.{readOf, fastReadOf}
-use Rattle.config_write.specs.Write.{written}
+use Rattle.config_masked.specs.Masked.{written}
 use Rattle.search.specs.Search.{soughtDevices, soughtClasses, soughtNumber}
 use Rattle.config_read.specs.declared.target.Target.{Target}
 use Rattle.config_read.specs.declared.target.Target.the-variants.{Function, Refused}
@@ -190,14 +190,20 @@ isHandleOf b handle = leb 1 handle && leb handle (length (b .records))
 abbrev pub targetOf : Reference → ℕ → ℕ → ℕ → Target
 targetOf b w handle register = target (isHandleOf b handle) w handle register
 
+-- the mask of a register, and its clear mask: no register is cleared by writing
+abbrev pub maskOf : List (List ℕ) → ℕ → ℕ → ℕ
+maskOf records i at = byteAt (recordOf records i) (masksAt + at)
+
+abbrev pub clearMaskOf : List (List ℕ) → ℕ → ℕ → ℕ
+clearMaskOf records i at = 0
+
 -- the registers after w bytes of a value are written at a register of the function at place i,
--- little-endian: each addressed byte through its own mask
+-- little-endian: each addressed byte through its own masks
 abbrev pub registersAfter : Reference → ℕ → ℕ → ℕ → ℕ → ℕ → ℕ → ℕ
 registersAfter b w i register value j at =
-    let mask = byteAt (recordOf (b .records) i) (masksAt + at) in
     let new = value / 256 ^ (at - register) % 256 in
     cond (eqb j i && (leb register at && ltb at (register + w)))
-    (written at mask (b .registers i at) new)
+    (written (maskOf (b .records) i at) (clearMaskOf (b .records) i at) (b .registers i at) new)
     (b .registers j at)
 
 abbrev pub withRegistersOf : (ℕ → ℕ → ℕ) → Reference → Reference

@@ -6,6 +6,9 @@ use Rattle.config_write.proofs.write.write_byte.Tie as tie
 mask-byte-requires : tie.Need-mask-byte-requires
 mask-byte-requires c κs = search needs
 
+clear-mask-requires : tie.Need-clear-mask-requires
+clear-mask-requires c κs = search needs
+
 register-byte-requires : tie.Need-register-byte-requires
 register-byte-requires c κs = search needs
 
@@ -22,13 +25,24 @@ put-byte-requires : tie.Need-put-byte-requires
 put-byte-requires c κs = search needs
 
 returns : tie.Need-returns
-returns c = rw (c .put-byte .ensures, c .before .written .ensures, c .before .before .before .register-byte .ensures, c .before .before .before .before .before .mask-byte .ensures)
+returns c =
+    let w = c .before in
+    let r = w .before .before in
+    let m = r .before .before in
+    rw (
+      c .put-byte .ensures,
+      w .written .ensures,
+      r .register-byte .ensures,
+      m .clear-mask .ensures,
+      m .before .mask-byte .ensures,
+    )
 
 pub write-byte-spec : {M : Type 1} → statement M
 write-byte-spec =
     tie.close
     (tie.spec
     mask-byte-requires
+    clear-mask-requires
     register-byte-requires
     mul-at
     add-at

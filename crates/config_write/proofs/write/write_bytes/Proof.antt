@@ -2,7 +2,7 @@
 use Prim.Native.Nat.{suc, _+_, _-_, _≤_}
 use mathlib.Core.Path.{_≡_}
 use native.Mathlib.Nat.{add-zero, sub-zero}
-use Rattle.config_write.specs.Write.{bytesWritten}
+use Rattle.config_write.specs.Write.{bytesWritten, registersWritten}
 use borrow.Author.Needs.{needs}
 use native.Mathlib.Omega.{arith}
 use Rattle.config_write.proofs.write.write_bytes.Statement.{statement}
@@ -10,7 +10,9 @@ use Rattle.config_write.proofs.write.write_bytes.Tie as tie
 
 abbrev Inv-loop : tie.InvT-loop
 Inv-loop records registers₀ function register value w rest₀ i₀ registers rest i =
-    (i ≤ w) × (bytesWritten (w - i) records function (register + i) rest registers ≡ bytesWritten w records function register value registers₀)
+    (i ≤ w)
+    × (registersWritten (w - i) records function (register + i) rest registers
+    ≡ registersWritten w records function register value registers₀)
 
 abbrev μ-loop : tie.MeasureT-loop
 μ-loop records registers₀ function register value w rest₀ i₀ registers rest i = w - i

@@ -1,0 +1,3 @@
+-- The laws of the rule, and the rows.
+pub mod Bits
+pub mod Rows
