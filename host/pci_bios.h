@@ -87,8 +87,8 @@ uint32_t pci_fast_read_config(const struct pci_board *board, unsigned width, uin
                               uint8_t reg, int *fault);
 
 /* Writes the low bytes of the value where the masks have 1: 0, also where none has, or a refusal
-   that changes nothing. Writes to 04h and 10h-27h open, close and move windows; the list then
-   shows it. */
+   that changes nothing. In status (06h and 07h) a 1 clears such a bit, and a 0 leaves it. Writes to
+   04h and 10h-27h open, close and move windows; the list then shows it. */
 int32_t pci_write_config(struct pci_board *board, unsigned width, uint32_t handle, uint8_t reg,
                          uint32_t value);
 

@@ -85,6 +85,8 @@ UBYTE fast_read_config_byte(LONG handle, UBYTE reg);
 UWORD fast_read_config_word(LONG handle, UBYTE reg);
 ULONG fast_read_config_longword(LONG handle, UBYTE reg);
 
+/* Status, the word at 06h, is not stored: a 1 clears a bit that can be cleared, a 0 leaves it. The
+   longword at 04h has it in its upper half, so command is changed by the word at 04h. */
 LONG write_config_byte(LONG handle, UBYTE reg, UBYTE val);
 LONG write_config_word(LONG handle, UBYTE reg, UWORD val);
 LONG write_config_longword(LONG handle, UBYTE reg, ULONG val);

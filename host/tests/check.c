@@ -98,6 +98,7 @@ int main(int argc, char **argv) {
     test_driver();
     test_draft();
     test_cookie();
+    test_status();
     test_passed_on();
     test_orders();
     test_trace();

@@ -55,6 +55,7 @@ void test_editions(void);
 void test_driver(void);
 void test_draft(void);
 void test_cookie(void);
+void test_status(void);
 void test_passed_on(void);
 void test_orders(void);
 void test_altered(void);

@@ -8,7 +8,6 @@ use numbers::number::little_at;
 ghost use mathlib.Core.Path.{_≡_};
 ghost use Rattle.board.specs.Layout.{
   recordByte,
-  maskByte,
   exponent,
   byteOrder,
   widths,
@@ -83,13 +82,6 @@ pub fn record_byte(records: &Records, function: u32, at: u32) -> u8
     ensures { λ r. ⌜ r ≡ recordByte (now (records .entry)) function at ⌝ }
 {
     byte_at(records, RECORD * (function as usize) + at as usize)
-}
-
-// The mask of a register.
-pub fn mask_byte(records: &Records, function: u32, register: u8) -> u8
-    ensures { λ r. ⌜ r ≡ maskByte (now (records .entry)) function register ⌝ }
-{
-    record_byte(records, function, MASKS + register as u32)
 }
 
 // A field of the entry of a base register.

@@ -5,6 +5,7 @@ use mathlib.Core.Bool.{Bool, true, false, cond, _&&_}
 use mathlib.Core.Path.{_≡_, refl, sym, ap}
 use lib.Dec.{leb}
 use borrow.Author.Tests.{eqb-true, le-leb, leb-true}
+use Rattle.board.specs.Handles.{functionCount, isHandle}
 use Rattle.board.specs.Layout.{registersEach}
 use Rattle.numbers.specs.Numbers.{bytes, isMultiple}
 use Rattle.board.specs.Statuses.{successful, badRegisterNumber, badHandle}
@@ -14,7 +15,7 @@ use Rattle.board.specs.declared.status.Status.{Status}
 use Rattle.numbers.proofs.Tests.{both-true}
 use Rattle.config_read.specs.declared.target.Target.the-variants.{Function, Refused}
 use Rattle.config_read.specs.Target.{fits, target}
-use Rattle.config_read.specs.Meaning.{InsideRegisters}
+use Rattle.config_read.specs.Meaning.{InsideTable, InsideRegisters}
 
 -- an aligned access at a register does not pass the last register
 aligned-inside : (width : Width) (register : ℕ) → register < registersEach → register % bytes width ≡ 0 → register + bytes width ≤ registersEach
@@ -51,6 +52,13 @@ target-refuses good w handle register s = by good (fits w register)
     by true true e g = let z : _≡_ {A = ℕ} 0 1 = cc in omega arith
     by true false e g = let z : _≡_ {A = ℕ} 0 1 = cc (ap (λ (x : Status). x .0) g) in omega arith
     by false f e g = let z : _≡_ {A = ℕ} 0 1 = cc (ap (λ (x : Status). x .0) g) in omega arith
+
+-- THEOREM: an accepted access is for a function of the table
+pub inside-table : InsideTable
+inside-table header w handle register i e =
+    let t = target-accepts (isHandle header handle) w handle register i e in
+    let good = both-true (leb 1 handle) _ (t .0) in
+    omega (arith, t .1 .0, leb-true 1 handle (good .0), leb-true handle (functionCount header) (good .1))
 
 -- THEOREM: no accepted access passes the last register
 pub inside-registers : InsideRegisters

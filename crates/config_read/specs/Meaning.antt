@@ -1,15 +1,23 @@
 -- What the checks and configuration reads mean (document 01, "Registers" and "Numbers handed
 -- back"): statements alone, proved in proofs/Targets.antt and proofs/Fast.antt.
-use Prim.Native.Nat.{ℕ, _+_, _-_, _^_, _≤_}
+use Prim.Native.Nat.{ℕ, _+_, _-_, _^_, _<_, _≤_}
 use mathlib.Core.Bool.{Bool, true, false}
 use mathlib.Core.List.{List}
 use mathlib.Core.Logic.{_↔_}
 use mathlib.Core.Path.{_≡_}
-use Rattle.board.specs.Layout.{registersEach}
+use Rattle.board.specs.Handles.{isHandle}
+use Rattle.board.specs.Layout.{functionsMax, registersEach}
 use Rattle.board.specs.Statuses.{successful}
 use Rattle.config_read.specs.declared.target.Target.the-variants.{Function}
 use Rattle.config_read.specs.Target.{target}
 use Rattle.config_read.specs.Read.{readConfig, fastReadConfig}
+
+-- an accepted access is for one of the 16 functions that the lent parts have room for
+abbrev pub InsideTable : Type 0
+InsideTable =
+    (header : List ℕ) (w handle register i : ℕ)
+    → target (isHandle header handle) w handle register ≡ Function i
+    → i < functionsMax
 
 -- no accepted access passes FFh
 abbrev pub InsideRegisters : Type 0

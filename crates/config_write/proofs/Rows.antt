@@ -10,7 +10,12 @@ config-write-rows =
     record {
       masked = refl;
       command = refl;
+      pastStatus = refl;
       status = refl;
+      statusWord = refl;
+      statusZero = refl;
+      statusBytes = refl;
+      commandAndStatus = refl;
       byte = refl;
       word = refl;
       longword = refl;

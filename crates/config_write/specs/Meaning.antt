@@ -1,9 +1,9 @@
--- What configuration writes mean (document 01, "Registers" and "Windows"): statements alone, proved
--- in proofs/Masks.antt, proofs/Written.antt and proofs/Moves.antt.
+-- What configuration writes mean (document 01, "Registers" and "Windows"; document 02, E2):
+-- statements alone, proved in proofs/Masks.antt, proofs/Written.antt and proofs/Moves.antt.
 use Prim.Native.Nat.{ℕ, _+_, _-_, _*_, _/_, _%_, _^_, _<_, _≤_}
-use mathlib.Core.Bool.{true, cond, _&&_}
+use mathlib.Core.Bool.{true, cond, not, _&&_}
 use mathlib.Core.List.{List}
-use mathlib.Core.Logic.{_↔_}
+use mathlib.Core.Logic.{_↔_, _⊎_}
 use mathlib.Core.Path.{_≡_}
 use lib.Dec.{eqb, leb, ltb}
 use lib.ListN.{length, getD}
@@ -19,10 +19,20 @@ use Rattle.config_read.specs.Target.{target}
 use Rattle.config_masked.specs.Masked.{written}
 use Rattle.config_write.specs.Write.{clearMask, bytesWritten, movesWindows, writeConfig}
 
--- bit by bit: the written bit where the mask has 1, else the one that stood there
+-- bit by bit, in status: a masked bit stays set exactly if it was and 0 is written, and every other
+-- bit stays
+abbrev pub StatusBits : Type 0
+StatusBits =
+    (register mask old new b : ℕ) → mask < 256 → new < 256 → b < 8
+    → (register ≡ 0x06) ⊎ (register ≡ 0x07)
+    → bit b (written mask (clearMask register mask) old new)
+    ≡ cond (bit b mask) (bit b old && not (bit b new)) (bit b old)
+
+-- in every other register: the written bit where the mask has 1, else the one that stood there
 abbrev pub MaskedBits : Type 0
 MaskedBits =
     (register mask old new b : ℕ) → mask < 256 → new < 256 → b < 8
+    → (register ≡ 0x06 → ⊥) → (register ≡ 0x07 → ⊥)
     → bit b (written mask (clearMask register mask) old new)
     ≡ cond (bit b mask) (bit b new) (bit b old)
 

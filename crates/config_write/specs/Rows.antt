@@ -1,6 +1,6 @@
--- Rows with literal numbers of document 01, "Registers", "Windows" and "Numbers handed back": bytes
--- written through their masks, the checks, and the writes after which the window list is worked out
--- anew.
+-- Rows with literal numbers of document 01, "Registers", "Windows" and "Numbers handed back", and of
+-- document 02, E2: bytes written through their masks, status, the checks, and the writes after which
+-- the window list is worked out anew.
 use Prim.Native.Nat.{ℕ}
 use mathlib.Core.Bool.{true, false}
 use mathlib.Core.List.{List, [], _∷_, _++_, map}
@@ -49,14 +49,36 @@ leaves bytes = configWritten (record { 0 = pos 0 }) (registers bytes) (7 ∷ [])
 abbrev refuses : ℕ → ConfigWritten
 refuses n = configWritten (minus n) (registers before) (7 ∷ [])
 
+-- four bytes from 04h on of handle 2, command and status; their masks are 03h, 05h, 30h and F9h
+abbrev fromCommand : List ℕ → List ℕ
+fromCommand bytes = replicate 260 0 ++ bytes
+
+-- the registers that a write leaves where they are 03h, 04h, B0h and F9h
+abbrev statusAfter : ℕ → ℕ → ℕ → List ℕ
+statusAfter w register value =
+    writeConfig w (functions 2) (replicate 804 0 ++ (0x03 ∷ 0x05 ∷ 0x30 ∷ 0xF9 ∷ []))
+    (fromCommand (0x03 ∷ 0x04 ∷ 0xB0 ∷ 0xF9 ∷ [])) (7 ∷ []) 2 register value
+    .registers
+
 pub record ConfigWriteRows : Type 0 where
   -- a byte takes the written bits where its mask has 1 and keeps the rest
   pub masked : throughMasks 0x40 ≡ 0x5A ∷ 0xC3 ∷ 0x53 ∷ 0xCA ∷ []
-  -- for every register, command and status included
+  -- command included, and what follows status
   pub command : map throughMasks (0x04 ∷ 0x05 ∷ [])
       ≡ (0x5A ∷ 0xC3 ∷ 0x53 ∷ 0xCA ∷ []) ∷ (0x5A ∷ 0xC3 ∷ 0x53 ∷ 0xCA ∷ []) ∷ []
+  pub pastStatus : throughMasks 0x08 ≡ 0x5A ∷ 0xC3 ∷ 0x53 ∷ 0xCA ∷ []
+  -- in status a masked bit becomes old AND NOT written
   pub status : map throughMasks (0x06 ∷ 0x07 ∷ [])
-      ≡ (0x5A ∷ 0xC3 ∷ 0x53 ∷ 0xCA ∷ []) ∷ (0x5A ∷ 0xC3 ∷ 0x53 ∷ 0xCA ∷ []) ∷ []
+      ≡ (0x5A ∷ 0x18 ∷ 0x58 ∷ 0x1A ∷ []) ∷ (0x5A ∷ 0x18 ∷ 0x58 ∷ 0x1A ∷ []) ∷ []
+  pub statusWord : statusAfter 2 0x06 0x2010 ≡ fromCommand (0x03 ∷ 0x04 ∷ 0xA0 ∷ 0xD9 ∷ [])
+  pub statusZero : statusAfter 2 0x06 0x0000 ≡ fromCommand (0x03 ∷ 0x04 ∷ 0xB0 ∷ 0xF9 ∷ [])
+  pub statusBytes : map (λ register. statusAfter 1 register 0xFF) (0x05 ∷ 0x06 ∷ 0x07 ∷ [])
+      ≡ fromCommand (0x03 ∷ 0x05 ∷ 0xB0 ∷ 0xF9 ∷ [])
+      ∷ fromCommand (0x03 ∷ 0x04 ∷ 0x80 ∷ 0xF9 ∷ [])
+      ∷ fromCommand (0x03 ∷ 0x04 ∷ 0xB0 ∷ 0x00 ∷ []) ∷ []
+  -- a longword at 04h writes command and clears status
+  pub commandAndStatus : statusAfter 4 0x04 0xFFFF0003
+      ≡ fromCommand (0x03 ∷ 0x00 ∷ 0x80 ∷ 0x00 ∷ [])
   -- little-endian over 1, 2 or 4 bytes, each addressed byte through its own mask
   pub byte : write 1 2 0x41 0xC3 ≡ leaves (0x11 ∷ 0xC3 ∷ 0x33 ∷ 0x44 ∷ [])
   pub word : write 2 2 0x42 0xA1B2 ≡ leaves (0x11 ∷ 0x22 ∷ 0x32 ∷ 0xA4 ∷ [])

@@ -1,9 +1,9 @@
--- Writing configuration registers: document 01, "Registers". The kept window list follows the
--- registers that it depends on.
-use Prim.Native.Nat.{ℕ, zero, suc, _+_, _-_, _*_, _/_, _%_}
+-- Writing configuration registers: document 01, "Registers", and document 02, E2. The kept window
+-- list follows the registers that it depends on.
+use Prim.Native.Nat.{ℕ, zero, suc, _+_, _*_, _/_, _%_}
 use mathlib.Core.Bool.{Bool, cond, _&&_, _||_}
 use mathlib.Core.List.{List}
-use lib.Dec.{leb, ltb}
+use lib.Dec.{eqb, leb, ltb}
 use lib.ListN.{set}
 use Rattle.board.specs.Handles.{isHandle}
 use Rattle.board.specs.Layout.{registersEach, maskByte, registerByte}
@@ -16,9 +16,10 @@ use Rattle.config_read.specs.declared.target.Target.the-variants.{Function, Ref
 use Rattle.config_read.specs.Target.{target}
 use Rattle.config_masked.specs.Masked.{written}
 
--- the clear mask of a register with a mask: no register is cleared by writing
+-- the clear mask of a register with a mask: of status, 06h and 07h, it is the mask, so each masked
+-- bit becomes old AND NOT written; no other register has one
 abbrev pub clearMask : ℕ → ℕ → ℕ
-clearMask register mask = 0
+clearMask register mask = cond (eqb register 0x06 || eqb register 0x07) mask 0
 
 -- the clear mask of a register of the function at place i
 abbrev pub clearMaskByte : List ℕ → ℕ → ℕ → ℕ

@@ -3,23 +3,22 @@
 use board::layout::BASE_0;
 use board::layout::COMMAND;
 use board::layout::Header;
+use board::layout::MASKS;
+use board::layout::RECORD;
 use board::layout::REGISTER_BYTES;
 use board::layout::Records;
 use board::layout::Registers;
 use board::layout::Windows;
-use board::layout::mask_byte;
-use board::layout::register_byte;
 use board::status::Status;
 use config_masked::byte::written;
 use config_read::target::Target;
 use config_read::target::target_of;
 use numbers::number::Width;
 use numbers::number::bytes;
-use numbers::number::put_byte;
 use window_list::refresh::refresh;
 ghost use mathlib.Core.Path.{_≡_};
-ghost use Prim.Native.Nat.{_+_, _≤_};
-ghost use Rattle.board.specs.Layout.{registersEach, maskByte};
+ghost use Prim.Native.Nat.{_+_, _<_, _≤_};
+ghost use Rattle.board.specs.Layout.{functionsMax, registersEach, maskByte};
 ghost use Rattle.numbers.specs.Numbers.{bytes};
 ghost use Rattle.config_write.specs.Write.{
   clearMask,
@@ -31,45 +30,52 @@ ghost use Rattle.config_write.specs.Write.{
   writeConfig,
 };
 
+// The two bytes of status.
+const STATUS: u8 = 0x06;
+
+const STATUS_HIGH: u8 = 0x07;
+
 // The register after the base registers.
 const BASES_END: u8 = 0x28;
 
-// The bits of a register with a mask that are cleared by writing 1.
+// The bits of a register with a mask that are cleared by writing 1: those of status.
 fn clear_mask(register: u8, mask: u8) -> u8
     ensures { λ r. ⌜ r ≡ clearMask register mask ⌝ }
 {
+    if (register == STATUS) | (register == STATUS_HIGH) {
+        return mask;
+    }
     0
 }
 
-// Writes one byte through its masks.
+// Writes one byte through its masks. The function is one of the table, so no position is tested.
 fn write_byte(records: &Records, registers: &mut Registers, function: u32, register: u8, new: u8)
+    requires { ⌜ function < functionsMax ⌝ }
     ensures { λ _. ⌜ now (registers .exit)
         ≡ byteWritten (maskByte (now (records .entry)) function)
         (clearMaskByte (now (records .entry)) function) function register new
         (now (registers .entry)) ⌝ }
 {
-    let mask = mask_byte(records, function, register);
+    let mask = records[RECORD * (function as usize) + (MASKS as usize + register as usize)];
     let clear = clear_mask(register, mask);
-    let old = register_byte(registers, function, register);
     let at = REGISTER_BYTES * (function as usize) + register as usize;
-    put_byte(registers, at, written(mask, clear, old, new));
+    registers[at] = written(mask, clear, registers[at], new);
 }
 
-// Writes the low bytes of a value from a register on, least byte first.
+// Writes the w low bytes of a value from a register on, least byte first.
 fn write_bytes(
     records: &Records,
     registers: &mut Registers,
     function: u32,
     register: u8,
-    width: Width,
+    w: u8,
     value: u32,
 )
-    requires { ⌜ register + bytes width ≤ registersEach ⌝ }
+    requires { ⌜ (function < functionsMax) × (register + w ≤ registersEach) ⌝ }
     ensures { λ _. ⌜ now (registers .exit)
-        ≡ registersWritten (bytes width) (now (records .entry)) function register value
+        ≡ registersWritten w (now (records .entry)) function register value
         (now (registers .entry)) ⌝ }
 {
-    let w = bytes(width);
     let mut rest = value;
     let mut i = 0;
     // Invariant: writing w - i bytes of rest from register + i on gives what the call gives.
@@ -86,12 +92,12 @@ fn write_bytes(
     }
 }
 
-// Whether the registers of a width from a register on hold a byte that the window list depends on:
-// the command byte or a base register's.
-fn moves_windows(register: u8, width: Width) -> bool
-    ensures { λ r. ⌜ r ≡ movesWindows (bytes width) register ⌝ }
+// Whether the w registers from a register on hold a byte that the window list depends on: the
+// command byte or a base register's.
+fn moves_windows(register: u8, w: u8) -> bool
+    ensures { λ r. ⌜ r ≡ movesWindows w register ⌝ }
 {
-    let end = register as u32 + bytes(width) as u32;
+    let end = register as u32 + w as u32;
     ((register <= COMMAND) & ((COMMAND as u32) < end))
         | ((register < BASES_END) & ((BASE_0 as u32) < end))
 }
@@ -114,8 +120,9 @@ pub fn write_config(
 {
     match target_of(header, width, handle, register) {
         Target::Function(function) => {
-            write_bytes(records, registers, function, register, width, value);
-            if moves_windows(register, width) {
+            let w = bytes(width);
+            write_bytes(records, registers, function, register, w, value);
+            if moves_windows(register, w) {
                 refresh(header, records, registers, windows);
                 return Status::SUCCESSFUL;
             }

@@ -3,11 +3,14 @@
 use Prim.Native.Nat.{ℕ, _+_, _*_, _-_, _/_, _%_, _<_, _≤_}
 use native.Mathlib.Omega.{arith}
 use native.Mathlib.Nat.{min-eq-left}
+use mathlib.Core.Bool.{Bool, true, false, _&&_, _||_}
 use mathlib.Core.Logic.{⊎-elim}
-use mathlib.Core.Path.{_≡_, sym, _∙_, ap}
+use mathlib.Core.Path.{_≡_, refl, sym, _∙_, ap}
 use mathlib.Core.List.{List}
+use lib.Dec.{eqb, leb}
 use lib.ListN.{length}
 use lib.Seq.{ext-getD}
+use borrow.Author.Tests.{eqb-true, eqb-false, leb-true, leb-false, lt-leb}
 use Rattle.numbers.specs.Numbers.{byteAt, little, big}
 use Rattle.numbers.specs.Tables.{table}
 use Rattle.board.specs.Handles.{headerOf}
@@ -32,7 +35,15 @@ use Rattle.config_write.specs.Write.{clearMaskByte, registersWritten}
 use Rattle.config_write.proofs.Written.{masked-write}
 use Rattle.load.specs.Load.{padded}
 use Rattle.load.proofs.Lists.{zeros-after}
-use Rattle.reference.specs.Reference.{Reference, recordOf, exponentOf, joined, maskOf, registersAfter}
+use Rattle.reference.specs.Reference.{
+  Reference,
+  recordOf,
+  exponentOf,
+  joined,
+  maskOf,
+  clearMaskOf,
+  registersAfter,
+}
 use Rattle.reference.proofs.Records.{Sized, joined-byte}
 
 -- registers by function and number, one function's after another's
@@ -61,6 +72,23 @@ pub flat-number : (r : ℕ → ℕ → ℕ) (w i register : ℕ) → i < functio
 flat-number r w i register h k =
     little-same w (registerByte (flat r) i) (r i) register register (λ d l. ap (λ b. b % 256) (flat-byte r i (register + d) h (omega arith)))
 
+-- 06h and 07h are the registers from 06h to 07h
+status-from-to : (at : ℕ) → (eqb at 0x06 || eqb at 0x07) ≡ (leb 0x06 at && leb at 0x07)
+status-from-to at = by _ _ _ refl refl refl
+  where
+    by : (p q r : Bool) → eqb at 0x06 ≡ p → eqb at 0x07 ≡ q → leb 0x06 at ≡ r
+        → (p || q) ≡ (r && leb at 0x07)
+    by true q true e f g = let n = eqb-true at 0x06 e in rw n
+    by true q false e f g = absurd (omega (arith, eqb-true at 0x06 e, leb-false 0x06 at g))
+    by false true true e f g = let n = eqb-true at 0x07 f in rw n
+    by false true false e f g = absurd (omega (arith, eqb-true at 0x07 f, leb-false 0x06 at g))
+    by false false true e f g =
+        let past = leb-true 0x06 at g in
+        let other = eqb-false at 0x06 e in
+        let another = eqb-false at 0x07 f in
+        rw (lt-leb at 0x07 (omega arith))
+    by false false false e f g = refl
+
 module _ (rs : List (List ℕ)) (s : Sized rs) where
   -- a byte of the records array
   pub kept-byte : (i at : ℕ) → at < recordSize → recordByte (padded (joined rs)) i at ≡ byteAt (recordOf rs i) at
@@ -80,6 +108,10 @@ module _ (rs : List (List ℕ)) (s : Sized rs) where
   -- the masks of a register
   kept-mask : (i at : ℕ) → at < registersEach → maskByte (padded (joined rs)) i at ≡ maskOf rs i at
   kept-mask i at h = kept-byte i (masksAt + at) (omega arith)
+
+  kept-clear-mask : (i at : ℕ) → at < registersEach
+      → clearMaskByte (padded (joined rs)) i at ≡ clearMaskOf rs i at
+  kept-clear-mask i at h = rw (status-from-to at, kept-mask i at h)
 
   pub list-kept : (r : ℕ → ℕ → ℕ) → length rs ≤ functionsMax
       → windowList (headerOf (length rs)) (padded (joined rs)) (flat r) ≡ listOf (length rs) (exponentOf rs) r
@@ -102,4 +134,9 @@ written-same b s w i register value h k =
     in
     flat-is (registersAfter b w i register value) _ (t .room ∙ size) (λ j at l m.
     t .byte j at m
-    ∙ rw (kept-mask (b .records) s i at m, flat-byte (b .registers) i at h m, flat-byte (b .registers) j at l m))
+    ∙ rw (
+      kept-clear-mask (b .records) s i at m,
+      kept-mask (b .records) s i at m,
+      flat-byte (b .registers) i at h m,
+      flat-byte (b .registers) j at l m,
+    ))

@@ -190,12 +190,13 @@ isHandleOf b handle = leb 1 handle && leb handle (length (b .records))
 abbrev pub targetOf : Reference → ℕ → ℕ → ℕ → Target
 targetOf b w handle register = target (isHandleOf b handle) w handle register
 
--- the mask of a register, and its clear mask: no register is cleared by writing
+-- the mask of a register of the function at place i; the clear mask, which status alone has, from
+-- 06h to 07h
 abbrev pub maskOf : List (List ℕ) → ℕ → ℕ → ℕ
 maskOf records i at = byteAt (recordOf records i) (masksAt + at)
 
 abbrev pub clearMaskOf : List (List ℕ) → ℕ → ℕ → ℕ
-clearMaskOf records i at = 0
+clearMaskOf records i at = cond (leb 0x06 at && leb at 0x07) (maskOf records i at) 0
 
 -- the registers after w bytes of a value are written at a register of the function at place i,
 -- little-endian: each addressed byte through its own masks

@@ -1,6 +1,6 @@
 //! Boards that a caller altered.
 
-use crate::boards::{ENTRIES, OFFSET_LOW};
+use crate::boards::{ENTRIES, MASKS, OFFSET_LOW};
 use crate::parts::Parts;
 use crate::random::Random;
 use exports::REGISTERS;
@@ -9,7 +9,7 @@ use second::{BASES, FUNCTIONS, RECORD_LENGTH, WINDOWS};
 /// Alters one to three of the lent parts in a way that no call does.
 pub fn alter(random: &mut Random, parts: &mut Parts, cells: usize) {
     for _ in 0..random.within(1..=3) {
-        match random.below(15) {
+        match random.below(16) {
             0 => header(random, parts),
             1 => exponents(random, parts),
             2 => record_bytes(random, parts),
@@ -22,6 +22,7 @@ pub fn alter(random: &mut Random, parts: &mut Parts, cells: usize) {
             10 => longs(random, &mut parts.hooks),
             11 | 12 => hooks(random, parts),
             13 => offsets(random, parts),
+            14 => about_status(random, parts),
             _ => longs(random, &mut parts.used),
         }
     }
@@ -68,6 +69,16 @@ fn orders_and_widths(random: &mut Random, parts: &mut Parts) {
 fn offsets(random: &mut Random, parts: &mut Parts) {
     for record in parts.records.chunks_mut(RECORD_LENGTH) {
         record[OFFSET_LOW] ^= random.below(4) as u8;
+    }
+}
+
+/// Status and the registers beside it with any bits and masks, 08h too, which no image has.
+fn about_status(random: &mut Random, parts: &mut Parts) {
+    for record in parts.records.chunks_mut(RECORD_LENGTH) {
+        random.fill(&mut record[MASKS + 0x05..=MASKS + 0x08]);
+    }
+    for registers in parts.registers.chunks_mut(REGISTERS) {
+        random.fill(&mut registers[0x05..=0x08]);
     }
 }
 

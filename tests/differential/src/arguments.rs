@@ -7,6 +7,7 @@ use crate::calls::Call;
 use crate::editions::call_edition;
 use crate::parts::Parts;
 use crate::random::Random;
+use crate::status_arguments::status;
 use exports::REGISTERS;
 use second::{BASES, DRAFT_1_9, FUNCTIONS, RECORD_LENGTH};
 
@@ -28,8 +29,11 @@ pub fn search(random: &mut Random, parts: &Parts) -> Call {
     Call::FindPciDevice { id, index, call_edition }
 }
 
-/// A configuration call; most are writes, and many of them move a window.
+/// A configuration call; most are writes, and many of them move a window or are to status.
 pub fn configuration(random: &mut Random, parts: &Parts) -> Call {
+    if random.one_in(4) {
+        return status(random, parts);
+    }
     let access = match random.one_in(3) {
         true => base_of_window(random, parts),
         false => access(random, parts),
@@ -170,18 +174,27 @@ fn register(random: &mut Random) -> u8 {
 /// A value for the addressed bytes: all of a kind, any, one bit off what stands there,
 /// what was loaded there, or the start of a window near another.
 fn value(random: &mut Random, parts: &Parts, access: Access) -> u32 {
-    let place = (access.handle as usize).wrapping_sub(1) % FUNCTIONS;
     let register = usize::from(access.register);
-    let current = u32::from_le_bytes(four(&parts.registers, REGISTERS * place + register));
-    let loaded = u32::from_le_bytes(four(&parts.records, RECORD_LENGTH * place + register));
+    let at = RECORD_LENGTH * place(access) + register;
     match random.below(8) {
         0 => 0,
         1 => u32::MAX,
         2 => random.long(),
-        3 => current ^ 1 << random.below(16),
-        4 => loaded,
+        3 => current(parts, access) ^ 1 << random.below(16),
+        4 => u32::from_le_bytes(four(&parts.records, at)),
         _ => start(random, parts) >> (8 * (register % 4)),
     }
+}
+
+/// What stands at an access's register and the three after it; where the handle is bad, of a
+/// function that it would be if it were cut.
+pub fn current(parts: &Parts, access: Access) -> u32 {
+    let at = REGISTERS * place(access) + usize::from(access.register);
+    u32::from_le_bytes(four(&parts.registers, at))
+}
+
+fn place(access: Access) -> usize {
+    (access.handle as usize).wrapping_sub(1) % FUNCTIONS
 }
 
 /// The start of a kept window or of one that meets it or lies beside it, with or without

@@ -119,6 +119,9 @@ fn header(random: &mut Random) -> Record {
         }
     }
     record[0x04] = random.pick(&[3, 3, 3, 3, 1, 2, 0, 0xFF, 0xFC]);
+    if !random.one_in(4) {
+        status(random, &mut record);
+    }
     // A device like any other in draft 1.9, whose vendors end at FFFEh.
     if random.one_in(8) {
         record[0x02..0x04].fill(0xFF);
@@ -129,6 +132,16 @@ fn header(random: &mut Random) -> Record {
     }
     keep_rules(&mut record);
     record
+}
+
+/// Gives most bytes of status, and the one before them, bits that are set under their mask and
+/// outside it.
+fn status(random: &mut Random, record: &mut Record) {
+    for register in [0x05, 0x06, 0x07] {
+        let (value, mask) = (random.byte(), random.byte());
+        record[register] = random.pick(&[value, value | mask, 0xFF, 0]);
+        record[MASKS + register] = random.pick(&[mask, mask, 0xFF, 0]);
+    }
 }
 
 /// The last offset, any, or one about a window's length, by which a CPU address may be the bus

@@ -237,7 +237,7 @@ mod tests {
             let before = self.second.parts.clone();
             let answer = self.second.perform(&Call::Chain(call));
             let met = met(call, &answer, &before, &self.second.parts, &self.history);
-            self.history.note(&Call::Chain(call), &answer, &self.second.parts);
+            self.history.note(&Call::Chain(call), &answer, &before, &self.second.parts);
             met.into_iter().filter(|(_, met)| *met).map(|(what, _)| what).collect()
         }
 
@@ -256,8 +256,9 @@ mod tests {
         fn write_line(&mut self, handle: u32, value: u32) {
             let access = Access { width: 1, handle, register: 0x3C };
             let call = Call::WriteConfig { access, value };
+            let before = self.second.parts.clone();
             let answer = self.second.perform(&call);
-            self.history.note(&call, &answer, &self.second.parts);
+            self.history.note(&call, &answer, &before, &self.second.parts);
         }
     }
 

@@ -14,8 +14,9 @@ use second::{Record, BASES, DRAFT_1_9, LATER_TEXT};
 
 /// The widths that there are, and some that are refused.
 const WIDTHS: [u32; 6] = [1, 2, 4, 0, 3, 5];
-/// Values to write, P11's start among them.
-const VALUES: [u32; 4] = [0, u32::MAX, 0x8000_0000, 0xA5C3_965A];
+/// Values to write in this order, P11's start among them. All ones leave no status bit to clear,
+/// so a mixed one stands before them.
+const VALUES: [u32; 4] = [0, 0xA5C3_965A, u32::MAX, 0x8000_0000];
 /// Enough for both boards.
 const CELLS: usize = 4096;
 
@@ -125,8 +126,8 @@ impl<'a> Loaded<'a> {
 }
 
 /// Three functions with mixed masks. Each has one more command bit that no write changes,
-/// and windows that meet another's or end at 2^32; classes differ in one byte, and one device
-/// is FFFFh.
+/// status bits set under the mask and outside it, and windows that meet another's or end at
+/// 2^32; classes differ in one byte, and one device is FFFFh.
 fn mixed_records() -> [Record; 3] {
     let mut random = Random::new(1);
     let mut records = [plain_record(); 3];
@@ -138,6 +139,8 @@ fn mixed_records() -> [Record; 3] {
         }
         (0..BASES).for_each(|base| clear_base(record, base));
         record[MASKS + 0x04] = command_mask;
+        record[0x05..=0x08].copy_from_slice(&[0xF5, 0xB7, 0xED, 0x5F]);
+        record[MASKS + 0x05..=MASKS + 0x07].copy_from_slice(&[0x35, 0x66, 0x99]);
     }
     records[1][0x09] = 0x01;
     records[2][0x0B] = 0x10;

@@ -265,7 +265,7 @@ mod tests {
             let Board { second, history } = self;
             let answer = second.perform(&call);
             let met = met(&call, &answer, &second.parts, &second.cells, history);
-            history.note(&call, &answer, &second.parts);
+            history.note(&call, &answer, &second.parts, &second.parts);
             let met = met.into_iter().filter(|(_, met)| *met).map(|(what, _)| what);
             met.filter(|what| draft_met::all().all(|of_draft| of_draft != *what)).collect()
         }

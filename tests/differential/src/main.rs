@@ -55,6 +55,9 @@ mod script_met;
 mod script_proved;
 mod script_runs;
 mod script_sweep;
+mod status_arguments;
+mod status_met;
+mod status_sweep;
 mod sweep;
 mod tally;
 mod used_met;
@@ -107,6 +110,7 @@ fn compared(runs: u64, seed: u64, tally: &mut Tally) -> Result<(), String> {
         tally.scripts.scripts = script_sweep::sweep()?;
     }
     config_sweep::sweep(&mut swept)?;
+    status_sweep::sweep(&mut swept)?;
     data_sweep::sweep(&mut swept)?;
     edition_sweep::sweep(&mut swept)?;
     resource_sweep::sweep(&mut swept)?;

@@ -1,11 +1,11 @@
 //! What a call met beside the number of its answer; of data calls and conversions, see
-//! data_met.rs, of the editions that searches name, edition_met.rs.
+//! data_met.rs, of the editions that searches name, edition_met.rs, of status, status_met.rs.
 
 use crate::access::Access;
-use crate::boards::{ENTRIES, FIRST_BASE, LAST_OFFSET, MASKS, OFFSET};
+use crate::boards::{ENTRIES, FIRST_BASE, LAST_OFFSET, OFFSET};
 use crate::calls::{Answer, Call};
 use crate::parts::Parts;
-use exports::REGISTERS;
+use crate::status_met::STATUS;
 use second::{KeptWindow, BASES, LATER_TEXT, RECORD_LENGTH, TRAILER_LENGTH};
 use std::ops::Range;
 
@@ -148,14 +148,13 @@ fn class_search(parts: &Parts, class_code: u32, index: u32, number: i64) -> Met 
     ]
 }
 
-/// Whether some byte is written where its mask has 1 and where it has 0, with other bits
-/// than it has in both.
+/// Whether some byte that takes what is written is written where its mask has 1 and where it
+/// has 0, with other bits than it has in both.
 fn keeps_bits(before: &Parts, access: Access, value: u32) -> bool {
-    let place = access.handle as usize - 1;
     addressed(access).zip(value.to_le_bytes()).any(|(register, byte)| {
-        let other = before.registers[REGISTERS * place + register] ^ byte;
-        let mask = before.records[RECORD_LENGTH * place + MASKS + register];
-        other & mask != 0 && other & !mask != 0
+        let other = before.register(access.handle, register) ^ byte;
+        let mask = before.mask(access.handle, register);
+        !STATUS.contains(&register) && other & mask != 0 && other & !mask != 0
     })
 }
 
@@ -195,7 +194,7 @@ fn windows_moved(access: Access, before: &[KeptWindow], after: &[KeptWindow]) ->
 }
 
 /// The registers that an accepted access addresses.
-fn addressed(access: Access) -> Range<usize> {
+pub fn addressed(access: Access) -> Range<usize> {
     let first = usize::from(access.register);
     first..first + access.width as usize
 }

@@ -42,7 +42,7 @@ impl Pair {
         let before = self.second.parts.clone();
         let expected = self.second.perform(call);
         tally.count(call, &expected, &before, &self.second, &self.history);
-        self.history.note(call, &expected, &self.second.parts);
+        self.history.note(call, &expected, &before, &self.second.parts);
         let Performed { answer, second, recorded } = self.proved.perform(call, expected)?;
         let difference = answer
             .first_difference(&second)

@@ -1,5 +1,6 @@
 //! The lent arrays of a board: their form in `second`, and the first difference of two.
 
+use crate::boards::MASKS;
 use exports::*;
 use second::{Board, Hook, KeptWindow, Used, FUNCTIONS, RECORD_LENGTH};
 use std::fmt::LowerHex;
@@ -81,17 +82,37 @@ impl Parts {
 
     /// The line in a function's loaded register 3Ch; 0 where there is no place for it.
     pub fn loaded_line(&self, handle: u32) -> u8 {
-        byte_of(&self.records, RECORD_LENGTH, handle, 0x3C)
+        self.loaded(handle, 0x3C)
     }
 
     /// The pin in its loaded register 3Dh.
     pub fn loaded_pin(&self, handle: u32) -> u8 {
-        byte_of(&self.records, RECORD_LENGTH, handle, 0x3D)
+        self.loaded(handle, 0x3D)
     }
 
     /// The line that its register 3Ch says now.
     pub fn current_line(&self, handle: u32) -> u8 {
-        byte_of(&self.registers, REGISTERS, handle, 0x3C)
+        self.register(handle, 0x3C)
+    }
+
+    /// The record of a handle, where there is a place for it.
+    pub fn record(&self, handle: u32) -> Option<&[u8]> {
+        self.records.chunks(RECORD_LENGTH).nth((handle as usize).wrapping_sub(1))
+    }
+
+    /// A register as it is now; 0 where there is no place for it.
+    pub fn register(&self, handle: u32, register: usize) -> u8 {
+        byte_of(&self.registers, REGISTERS, handle, register)
+    }
+
+    /// The value that it was loaded with.
+    pub fn loaded(&self, handle: u32, register: usize) -> u8 {
+        byte_of(&self.records, RECORD_LENGTH, handle, register)
+    }
+
+    /// The mask of a register.
+    pub fn mask(&self, handle: u32, register: usize) -> u8 {
+        byte_of(&self.records, RECORD_LENGTH, handle, MASKS + register)
     }
 
     /// The list that count, records and registers give, whatever is kept.

@@ -6,7 +6,7 @@ use crate::layer::Through;
 use crate::model::Second;
 use crate::parts::Parts;
 use crate::script_met::ScriptMet;
-use crate::{chain_met, data_met, edition_met, met, resource_met};
+use crate::{chain_met, data_met, edition_met, met, resource_met, status_met};
 use std::collections::BTreeMap;
 use std::ops::RangeInclusive;
 
@@ -74,7 +74,8 @@ impl Tally {
             _ => Vec::new(),
         };
         let edition_met = edition_met::met(call, answer, before, &after.cells, history);
-        let all = [met, data_met, resource_met, chain_met, edition_met];
+        let status_met = status_met::met(call, answer, before, &after.parts, history);
+        let all = [met, data_met, resource_met, chain_met, edition_met, status_met];
         for (what, met) in all.into_iter().flatten() {
             *self.met.entry(what).or_default() += u64::from(met);
         }
@@ -101,7 +102,8 @@ impl Tally {
             }
         }
         let all = met::ALL.into_iter().chain(data_met::all()).chain(edition_met::all());
-        for what in all.chain(resource_met::ALL).chain(chain_met::all()) {
+        let all = all.chain(resource_met::ALL).chain(chain_met::all()).chain(status_met::all());
+        for what in all {
             if self.met.get(what).is_none_or(|&times| times == 0) {
                 missing.push(what.to_string());
             }

@@ -5,7 +5,7 @@ use crate::bytes::little;
 use crate::number::{
     fast_answer, plain_answer, Width, BAD_HANDLE, BAD_REGISTER_NUMBER, SUCCESSFUL,
 };
-use crate::record::{BASES, COMMAND, FIRST_BASE, MASKS};
+use crate::record::{BASES, COMMAND, FIRST_BASE, MASKS, STATUS};
 
 impl Board {
     /// The number and the value.
@@ -18,17 +18,18 @@ impl Board {
         fast_answer(self.config_value(handle, register, width), width)
     }
 
-    /// Writes the low bytes of the value where the masks allow it.
+    /// Writes the low bytes of the value: masked bits take it, all others stay.
     pub fn write_config(&mut self, handle: u32, register: u8, width: Width, value: u32) -> i32 {
         let (place, first) = match self.config_place(handle, register, width) {
             Ok(found) => found,
             Err(number) => return number,
         };
-        let masks = &self.records[place][MASKS + first..];
-        let registers = &mut self.registers[place][first..];
-        let bytes = value.to_le_bytes();
-        for ((kept, mask), byte) in registers.iter_mut().zip(masks).zip(bytes).take(width.bytes()) {
-            *kept = *kept & !mask | byte & mask;
+        let record = &self.records[place];
+        let registers = &mut self.registers[place];
+        for (at, written) in (first..first + width.bytes()).zip(value.to_le_bytes()) {
+            let old = registers[at];
+            let mask = record[MASKS + at];
+            registers[at] = old & !mask | taken(at, old, written) & mask;
         }
         if moves_windows(register, width) {
             self.refresh();
@@ -49,6 +50,16 @@ impl Board {
             return Err(BAD_REGISTER_NUMBER);
         }
         Ok((place, first))
+    }
+}
+
+/// What the masked bits of a register byte become: what is written, but in status a 1 clears
+/// its bit and a 0 leaves it (request E2), so that no write sets one.
+fn taken(register: usize, old: u8, written: u8) -> u8 {
+    if STATUS.contains(&register) {
+        old & !written
+    } else {
+        written
     }
 }
 

@@ -1,5 +1,5 @@
-//! A modelled PCI board with its BIOS calls, written from document 01 and request E1 of
-//! document 02 alone.
+//! A modelled PCI board with its BIOS calls, written from document 01 and requests E1 and
+//! E2 of document 02 alone.
 #![forbid(unsafe_code)]
 
 mod address;

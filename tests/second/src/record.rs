@@ -1,6 +1,7 @@
 //! The fields of a board image's record, and the rules a record must keep.
 
 use crate::bytes::{big, little};
+use std::ops::Range;
 
 pub const RECORD_LENGTH: usize = 544;
 /// Reset values (256), masks (256), six entries of 4, offset (4), dmaoffset (4).
@@ -11,6 +12,7 @@ pub const BASES: usize = 6;
 
 pub const REGISTERS: usize = 256;
 pub const COMMAND: usize = 0x04;
+pub const STATUS: Range<usize> = 0x06..0x08;
 pub const HEADER_TYPE: usize = 0x0E;
 pub const FIRST_BASE: usize = 0x10;
 pub const LINE: usize = 0x3C;

@@ -7,6 +7,7 @@ mod chains;
 mod data;
 mod images;
 mod resources;
+mod status;
 mod windows;
 
 use crate::board_b1::{b1_image, image_of, plain_record, set_window, Shape};

@@ -9,28 +9,25 @@ use Rattle.config_write.proofs.write.write_bytes.Statement.{statement}
 use Rattle.config_write.proofs.write.write_bytes.Tie as tie
 
 abbrev Inv-loop : tie.InvT-loop
-Inv-loop records registers₀ function register value w rest₀ i₀ registers rest i =
+Inv-loop records registers₀ function register w value rest₀ i₀ registers rest i =
     (i ≤ w)
     × (registersWritten (w - i) records function (register + i) rest registers
     ≡ registersWritten w records function register value registers₀)
 
 abbrev μ-loop : tie.MeasureT-loop
-μ-loop records registers₀ function register value w rest₀ i₀ registers rest i = w - i
-
-bytes-requires : tie.Need-bytes-requires Inv-loop μ-loop
-bytes-requires c κs = search needs
+μ-loop records registers₀ function register w value rest₀ i₀ registers rest i = w - i
 
 loop-holds : tie.Need-loop-holds Inv-loop μ-loop
 loop-holds c = (omega arith, rw (sub-zero, add-zero))
 
 add-write-byte : tie.Need-add-write-byte Inv-loop μ-loop
-add-write-byte c = search needs
+add-write-byte c = omega (arith, c .before .before .before .pre .1)
 
 cast-write-byte : tie.Need-cast-write-byte Inv-loop μ-loop
 cast-write-byte c = search needs
 
 write-byte-requires : tie.Need-write-byte-requires Inv-loop μ-loop
-write-byte-requires c κs = search needs
+write-byte-requires c κs = c .before .before .before .pre .0
 
 add-i : tie.Need-add-i Inv-loop μ-loop
 add-i c = search needs
@@ -42,9 +39,8 @@ loop-again : tie.Need-loop-again Inv-loop μ-loop
 unfolding bytesWritten
 loop-again c =
     let l = c .before .before .before .loop in
-    let a = c .before .before .before .before .before .args in
-    let w = c .before .before .before .before .bytes .result in
-    let e : w - l .i ≡ suc (w - (l .i + 1)) = omega arith in
+    let a = c .before .before .before .before .args in
+    let e : a .w - l .i ≡ suc (a .w - (l .i + 1)) = omega arith in
     let p : a .register + (l .i + 1) ≡ a .register + l .i + 1 = omega arith in
     (omega arith, rw (c .write-byte .ensures, p) (rw e at (l .inv .1)))
 
@@ -52,8 +48,8 @@ returns : tie.Need-returns Inv-loop μ-loop
 unfolding bytesWritten
 returns c =
     let l = c .before .loop in
-    let e : c .before .before .bytes .result - l .i ≡ 0 = omega arith in
-    rw (← c .before .before .bytes .ensures) (rw e at (l .inv .1))
+    let e : c .before .before .args .w - l .i ≡ 0 = omega arith in
+    rw e at (l .inv .1)
 
 pub write-bytes-spec : {M : Type 1} → statement M
 write-bytes-spec =
@@ -61,7 +57,6 @@ write-bytes-spec =
     (tie.spec
     Inv-loop
     μ-loop
-    bytes-requires
     loop-holds
     add-write-byte
     cast-write-byte
