@@ -9,13 +9,13 @@ use board::layout::{Header, Records, offset};
 use board::status::Status;
 
 // What the conversions hand back; the address of a refused one is 0.
-#[derive(Drop)]
+#[derive(Clone, Copy)]
 pub struct ToCpu {
     pub status: Status,
     pub address: CpuAddress,
 }
 
-#[derive(Drop)]
+#[derive(Clone, Copy)]
 pub struct ToBus {
     pub status: Status,
     pub address: BusAddress,

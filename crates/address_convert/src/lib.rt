@@ -1,2 +1,4 @@
 // The conversions between bus addresses and CPU addresses.
+#![tactic(auto)]
+
 pub mod convert;

@@ -1,4 +1,6 @@
 // The calls for C, a static library.
+#![tactic(auto)]
+
 pub mod config_exports;
 pub mod data_exports;
 pub mod exports;

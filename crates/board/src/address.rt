@@ -13,11 +13,11 @@ ghost use Rattle.board.specs.Addresses.{
 };
 
 // An address on the PCI bus: what data calls and base registers speak of.
-#[derive(Drop)]
+#[derive(Clone, Copy)]
 pub struct BusAddress(u32);
 
 // The address at which the CPU sees a bus address.
-#[derive(Drop)]
+#[derive(Clone, Copy)]
 pub struct CpuAddress(u32);
 
 // a - b, modulo 2^32.

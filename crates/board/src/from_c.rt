@@ -6,7 +6,7 @@ use crate::space::Space;
 use numbers::number::Width;
 
 // A width that C hands over; every other number is refused.
-#[derive(Drop)]
+#[derive(Clone, Copy)]
 pub enum CWidth {
     // 1, 2 or 4.
     Known(Width),

@@ -7,14 +7,14 @@ use crate::status::Status;
 use numbers::number::Width;
 
 // What a read hands back; the value of a refused one is 0.
-#[derive(Drop)]
+#[derive(Clone, Copy)]
 pub struct Read {
     pub status: Status,
     pub value: u32,
 }
 
 // What a fast read hands back; the value of a refused one is all ones of its width.
-#[derive(Drop)]
+#[derive(Clone, Copy)]
 pub struct FastRead {
     pub value: u32,
     pub fault: bool,

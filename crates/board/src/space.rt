@@ -1,5 +1,5 @@
 // The two address spaces.
-#[derive(Drop)]
+#[derive(Clone, Copy)]
 pub enum Space {
     // Number 0.
     Memory,

@@ -2,7 +2,7 @@
 ghost use Rattle.std.specs.Prelude.{◌≡◌};
 
 // The number of an answer: document 01's "Numbers handed back".
-#[derive(Drop)]
+#[derive(Clone, Copy)]
 pub struct Status(pub i32);
 
 impl Status {

@@ -39,7 +39,7 @@ pub type Values = [u64; 6];
 
 // What a call hands back: the number, whether it was refused, and the values. A fast read has no
 // number: it is 0, and `refused` is its fault flag.
-#[derive(Drop)]
+#[derive(Clone, Copy)]
 pub struct Answer {
     pub number: i32,
     pub refused: bool,

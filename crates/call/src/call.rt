@@ -7,7 +7,7 @@ use call_edition::edition::InEdition;
 use numbers::number::Width;
 
 // What is done to registers or cells.
-#[derive(Drop)]
+#[derive(Clone, Copy)]
 pub enum Access {
     // Operation 6 of registers, 9 of cells.
     Read,
@@ -18,7 +18,7 @@ pub enum Access {
 }
 
 // A call that changes nothing and has no buffer of its own: its answer is all there is.
-#[derive(Drop)]
+#[derive(Clone, Copy)]
 pub enum Query {
     // Operation 4.
     FindPciDevice { id: InEdition, index: u32 },
@@ -43,7 +43,7 @@ pub enum Query {
 }
 
 // A call with its arguments; the bytes that it reads or fills are lent beside it.
-#[derive(Drop)]
+#[derive(Clone, Copy)]
 pub enum Call {
     // Operation 1.
     Load,

@@ -17,14 +17,14 @@ use board::handle::place;
 use board::layout::{Records, offset};
 
 // A number as its caller names it, with the call's edition.
-#[derive(Drop)]
+#[derive(Clone, Copy)]
 pub struct InEdition {
     pub number: u32,
     pub edition: u32,
 }
 
 // What a data call names: an address on the bus, where its edition is known.
-#[derive(Drop)]
+#[derive(Clone, Copy)]
 pub enum NamedBus {
     At(BusAddress),
     // -2.

@@ -10,7 +10,7 @@ use check::same;
 use numbers::number::{Width, big_at, byte_at};
 
 // A call and the length of its own buffer; or bytes that are no call's header.
-#[derive(Drop)]
+#[derive(Clone, Copy)]
 pub enum Decoded {
     Known { call: Call, own: u32 },
     Malformed,

@@ -20,7 +20,7 @@ use call_edition::edition::{InEdition, in_edition};
 use numbers::number::{Width, bytes};
 
 // The fields of a header; what a call does not have is 0.
-#[derive(Drop)]
+#[derive(Clone, Copy)]
 pub struct Fields {
     pub operation: u8,
     pub width: u8,

@@ -16,7 +16,7 @@ use board::status::Status;
 use numbers::number::u32_at;
 
 // What a mark says; zeros where the call is refused.
-#[derive(Drop)]
+#[derive(Clone, Copy)]
 pub struct CardUsed {
     pub status: Status,
     pub used: u32,

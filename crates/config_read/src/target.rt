@@ -10,7 +10,7 @@ use board::status::Status;
 use numbers::number::{Width, is_multiple};
 
 // What the checks give.
-#[derive(Drop)]
+#[derive(Clone, Copy)]
 pub enum Target {
     // Accepted: the place of the function, from 0.
     Function(u32),

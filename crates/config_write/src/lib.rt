@@ -1,2 +1,4 @@
 // Configuration registers, written through their masks.
+#![tactic(auto)]
+
 pub mod write;

@@ -15,7 +15,7 @@ use data_window::refusal::DataRefusal;
 use numbers::number::{Width, bytes_by_shift, u32_at};
 
 // The first cell and the byte order of an access, or why it is refused.
-#[derive(Drop)]
+#[derive(Clone, Copy)]
 pub enum CellTarget {
     // 0: all cells of the access are in the buffer.
     At { at: usize, order: u8 },

@@ -26,7 +26,7 @@ use std::num::wrapping_sub_u32;
 use window::kept::{base_of, handle_of, is_contested, is_end, is_io, length_of, start_of};
 
 // What a data access names: the space, the bytes that it moves, whose window, and where.
-#[derive(Drop)]
+#[derive(Clone, Copy)]
 pub struct DataAddress {
     pub space: Space,
     pub width: Width,
@@ -47,7 +47,7 @@ pub fn data_address(space: Space, width: Width, handle: u32, address: BusAddress
 
 // The window that an access is for, with its distance from the window's start and the bytes that
 // remain to its end; or the check that failed.
-#[derive(Drop)]
+#[derive(Clone, Copy)]
 pub enum Finding {
     Found {
         base: u8,

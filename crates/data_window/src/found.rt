@@ -9,7 +9,7 @@ use board::status::Status;
 
 // The base register of the window, and the bytes from the bus address to its end; both are 0 where
 // the call is refused.
-#[derive(Drop)]
+#[derive(Clone, Copy)]
 pub struct FoundWindow {
     pub status: Status,
     pub base: u8,

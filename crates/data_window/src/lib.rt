@@ -1,4 +1,6 @@
 // The window for a handle: which window a data access is for, or the check that fails.
+#![tactic(auto)]
+
 pub mod find;
 pub mod found;
 pub mod named;

@@ -13,7 +13,7 @@ use call_edition::edition::{InEdition, NamedBus, bus_of};
 use numbers::number::Width;
 
 // What the caller of a data call names: a `DataAddress` whose address is in the call's edition.
-#[derive(Drop)]
+#[derive(Clone, Copy)]
 pub struct NamedAddress {
     pub space: Space,
     pub width: Width,

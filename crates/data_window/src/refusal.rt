@@ -8,7 +8,7 @@ use board::status::Status;
 
 // The check of a data access that failed, in the order of the checks. A cell past the buffer, which
 // only an altered board has, is found last, when the cells are worked out.
-#[derive(Drop)]
+#[derive(Clone, Copy)]
 pub enum DataRefusal {
     // -2: the call's edition is none.
     UnknownEdition,

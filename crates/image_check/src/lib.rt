@@ -1,2 +1,4 @@
 // The check of a board image.
+#![tactic(auto)]
+
 pub mod check;

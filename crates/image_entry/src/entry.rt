@@ -5,7 +5,7 @@ ghost use Rattle.image_entry.specs.Entry.{empty_ok, form_ok, low_bits_ok, mask_o
 use numbers::number::power;
 
 // An entry's four bytes, and the reset value and the mask of its base register.
-#[derive(Drop)]
+#[derive(Clone, Copy)]
 pub struct Entry {
     pub exponent: u8,
     pub order: u8,

@@ -1,2 +1,4 @@
 // The rules of one window entry of a record.
+#![tactic(auto)]
+
 pub mod entry;

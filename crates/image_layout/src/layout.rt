@@ -10,7 +10,7 @@ pub const IMAGE_RECORD: usize = 544;
 pub const TRAILER: usize = 12;
 
 // A part of an image: where it begins, and the first position past it.
-#[derive(Drop)]
+#[derive(Clone, Copy)]
 pub struct Range {
     pub from: usize,
     pub to: usize,

@@ -7,7 +7,7 @@ use crate::layout::position_back;
 use numbers::number::{Width, big_at};
 
 // The trailer's numbers, in their order.
-#[derive(Drop)]
+#[derive(Clone, Copy)]
 pub struct Trailer {
     pub distance: u32,
     pub count: u32,

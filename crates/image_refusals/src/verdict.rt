@@ -14,7 +14,7 @@ pub const CELLS: u32 = 65536;
 
 // The number of the first refusal that applies, 0 for none; with 6 the place of the first bad
 // record, else 0.
-#[derive(Drop)]
+#[derive(Clone, Copy)]
 pub struct Verdict {
     pub number: i32,
     pub place: u32,

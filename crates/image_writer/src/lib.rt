@@ -1,2 +1,4 @@
 // The writer of board images.
+#![tactic(auto)]
+
 pub mod write;

@@ -1,2 +1,4 @@
 // The hook array, and the line and pin of a function.
+#![tactic(auto)]
+
 pub mod hooks;

@@ -9,7 +9,7 @@ use board::layout::{HOOK, Hooks};
 use numbers::number::u32_at;
 
 // What happens to the array: a hook comes in at a position, or the one there goes out.
-#[derive(Drop)]
+#[derive(Clone, Copy)]
 pub enum Change {
     In {
         position: usize,

@@ -1,2 +1,4 @@
 // The hook array changed by one hook.
+#![tactic(auto)]
+
 pub mod change;

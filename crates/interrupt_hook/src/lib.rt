@@ -1,3 +1,5 @@
 // Interrupt chains: a hook comes in, or goes out.
+#![tactic(auto)]
+
 pub mod chain;
 mod position;

@@ -1,2 +1,4 @@
 // The listing of interrupt chains.
+#![tactic(auto)]
+
 pub mod listing;

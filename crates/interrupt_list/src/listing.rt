@@ -9,7 +9,7 @@ use board::status::Status;
 use interrupt_array::hooks::{LAST_LINE, handle_at, handler_at, is_on_line, parameter_at};
 
 // The hook at an index of a chain, or the refusal.
-#[derive(Drop)]
+#[derive(Clone, Copy)]
 pub enum ChainListing {
     // 0
     Found {

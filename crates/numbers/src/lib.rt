@@ -1,2 +1,4 @@
 // Bytes, and numbers of w bytes in both orders.
+#![tactic(auto)]
+
 pub mod number;

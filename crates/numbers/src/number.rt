@@ -16,7 +16,7 @@ ghost use Rattle.numbers.specs.Numbers.{
 };
 
 // How many bytes an access or a number has.
-#[derive(Drop)]
+#[derive(Clone, Copy)]
 pub enum Width {
     // 1 byte.
     Byte,

@@ -1,1 +1,2 @@
 // Document 01's proved cases. No functions: the table stands in specs/, its proof in proofs/.
+#![tactic(auto)]

@@ -1,5 +1,7 @@
 // Replays the trace that stands on standard input (docs/TRACE.md): performs its calls and prints
 // each with its arguments and its answer, as a system-call tracer does.
+#![tactic(auto)]
+
 mod calls;
 mod descriptors;
 mod forms;
@@ -21,7 +23,7 @@ const OPENING: usize = 12;
 const CELLS: usize = 65536;
 
 // What a trace begins with: so many cells, or what is no trace of this version.
-#[derive(Drop)]
+#[derive(Clone, Copy)]
 enum Opening {
     Cells(usize),
     Refused,

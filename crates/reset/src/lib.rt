@@ -1,4 +1,6 @@
 // Reset: the lent parts of a board made anew from the loaded records.
+#![tactic(auto)]
+
 mod call;
 mod restart;
 

@@ -19,7 +19,7 @@ const IO: u16 = 0x4000;
 const WIDTHS: u16 = 0x0100;
 
 // The fields in the order of the bytes.
-#[derive(Drop)]
+#[derive(Clone, Copy)]
 pub struct Descriptor {
     pub next: u16,
     pub flags: u16,

@@ -8,7 +8,7 @@ use numbers::number::{Width, big_at};
 use resource_descriptor::descriptor::{Descriptor, LAST, NEXT, SIZE};
 
 // What stands at a position: a descriptor with the position of the one after it, or no more.
-#[derive(Drop)]
+#[derive(Clone, Copy)]
 pub enum Step {
     Found {
         descriptor: Descriptor,

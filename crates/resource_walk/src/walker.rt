@@ -5,7 +5,7 @@ ghost use Rattle.resource_walk.specs.Walk.{step_at, position};
 
 use crate::step::{Step, descriptor_step, position};
 
-#[derive(Drop)]
+#[derive(Clone, Copy)]
 pub struct Walker<'a> {
     pub bytes: &'a [u8],
     pub at: usize,

@@ -1,4 +1,6 @@
 // The two searches of document 01.
+#![tactic(auto)]
+
 mod search;
 
 pub use search::{Search, find_pci_classcode, find_pci_device};

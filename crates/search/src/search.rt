@@ -22,7 +22,7 @@ use call_edition::edition::{InEdition, class_of, id_of, is_bad_vendor, is_known}
 use numbers::number::Width;
 
 // The answer of a search.
-#[derive(Drop)]
+#[derive(Clone, Copy)]
 pub enum Search {
     // The handle found, which is the number handed back.
     Found(u32),
@@ -31,7 +31,7 @@ pub enum Search {
 }
 
 // What a search looks for.
-#[derive(Drop)]
+#[derive(Clone, Copy)]
 pub(crate) enum Wanted {
     // Device ID in bits 31 to 16, vendor in bits 15 to 0.
     Device(u32),

@@ -1,2 +1,4 @@
 // The window list: the kept list refreshed.
+#![tactic(auto)]
+
 pub mod refresh;

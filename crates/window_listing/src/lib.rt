@@ -1,2 +1,4 @@
 // The listing of windows.
+#![tactic(auto)]
+
 pub mod listing;

@@ -11,7 +11,7 @@ use numbers::number::u64_at;
 use window::kept::{base_of, handle_of, is_contested, is_end, is_io, length_of, start_of};
 
 // A window in its space, with its start and length.
-#[derive(Drop)]
+#[derive(Clone, Copy)]
 pub enum ListedWindow {
     // Space 0.
     Memory { start: BusAddress, length: u32 },
@@ -20,7 +20,7 @@ pub enum ListedWindow {
 }
 
 // An answer of the listing.
-#[derive(Drop)]
+#[derive(Clone, Copy)]
 pub enum Listing {
     // Number 0.
     Found {

@@ -1,5 +1,7 @@
 // Lists the windows of the board whose image stands on standard input: document 01, "Board B1 and
 // its cases". The count is printed before the windows, so that the list is gone through twice.
+#![tactic(auto)]
+
 ghost use Rattle.std.specs.Prelude.{◌≡◌, length};
 
 use board::layout::{
