@@ -28,8 +28,10 @@ LEMMA_OF = "_lem"
 
 
 def snake(name):
-    name = re.sub(r"(?<=[a-z0-9])[A-Z]", lambda m: "_" + m[0].lower(), name)
-    return name.replace("-", "_")
+    if name[0].isupper():
+        return name
+    name = re.sub(r"(?<=[a-z0-9])[A-Z]|(?<=[A-Z])[A-Z](?=[a-z])", lambda m: "_" + m[0], name)
+    return name.lower().replace("-", "_")
 
 
 def read(path):

@@ -89,6 +89,7 @@ pub fn class_of(class: InEdition) -> u32
 // The bus address that a caller names to a handle: in draft 1.9 by the CPU address, which is above
 // it by the function's offset. The later text is tested first: its data calls are to take no longer
 // than they did before there were editions.
+#[tactic(auto, unfolding(crate::specs::Edition::named_bus))]
 pub fn bus_of(records: &Records, handle: u32, address: InEdition) -> NamedBus
     ensures { result ≡ named_bus (offset records.now (handle - 1)) address }
 {

@@ -178,6 +178,7 @@ fn space_of_byte(n: u8) -> Space
 }
 
 // The only call that can have these fields, which may still be those of no call.
+#[tactic(auto, unfolding(crate::specs::Format::candidate))]
 pub fn call_of(f: Fields) -> Call
     ensures { result ≡ candidate f }
 {

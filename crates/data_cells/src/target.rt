@@ -51,6 +51,7 @@ fn cells_at(
 }
 
 // The cells for what was found in the windows of the function at a place, from 0.
+#[tactic(auto, unfolding(crate::specs::Cells::cell_target_of))]
 pub fn cell_target_of(
     records: &Records,
     offsets: &CellOffsets,

@@ -142,6 +142,7 @@ fn in_list(
 }
 
 // The window of a handle that holds an address, with so many cells lent.
+#[tactic(auto, unfolding(crate::specs::Find::find))]
 pub fn find_window(
     header: &Header,
     records: &Records,

@@ -7,7 +7,6 @@ ghost use Rattle.image_writer.specs.Write.{writer_outcome, write_image};
 
 use board::handle::function_count;
 use board::layout::{Header, RECORD, Records};
-use bytes::copy;
 use image_layout::layout::{IMAGE_RECORD, TRAILER, image_size};
 use image_layout::sum::sum_of;
 
@@ -51,10 +50,10 @@ fn put_image(records: &[u8], count: u32, out: &mut [u8])
         ≡ image_of count records.now ++ drop (image_size count) out.old }
 {
     let kept = RECORD * count as usize;
-    copy(&records[..kept], out);
+    out[..kept].copy_from_slice(&records[..kept]);
     let t = trailer(count, sum_of(&records[..kept]));
     let end = IMAGE_RECORD * count as usize;
-    copy(&t, &mut out[end..]);
+    out[end..end + TRAILER].copy_from_slice(&t);
 }
 
 // The loaded board as an image; the number of the refusal, 0 for none: 1 where the output is too

@@ -14,6 +14,6 @@ interrupt_array_rows =
       lines = refl;
       entries = refl;
       array = refl;
-      in_aRow = refl;
+      in_a_row = refl;
       chains = refl;
     }

@@ -39,7 +39,7 @@ pub record InterruptArrayRows : Type 0 where
   pub entries : map (hook_at hooks) (0 ∷ 1 ∷ 2 ∷ 3 ∷ 15 ∷ [])
       ≡ hook 3 0x3000 9 ∷ hook 1 0x1000 8 ∷ hook 2 0x2000 7 ∷ hook 0 0 0 ∷ hook 0 0 0 ∷ []
   pub array : array_of (hook_at hooks) ≡ hooks
-  pub in_aRow : packed (hook 3 0x3000 9 ∷ hook 1 0x1000 8 ∷ hook 2 0x2000 7 ∷ []) ≡ hooks
+  pub in_a_row : packed (hook 3 0x3000 9 ∷ hook 1 0x1000 8 ∷ hook 2 0x2000 7 ∷ []) ≡ hooks
   -- a function's chain is its line's, in the array's order; an entry of zeros is on none
   pub chains : map (chain_of records hooks) (0 ∷ 4 ∷ 5 ∷ 6 ∷ 15 ∷ [])
       ≡ [] ∷ [] ∷ (hook 3 0x3000 9 ∷ hook 1 0x1000 8 ∷ []) ∷ [] ∷ (hook 2 0x2000 7 ∷ []) ∷ []

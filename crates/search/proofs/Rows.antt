@@ -10,7 +10,7 @@ search_rows =
     record {
       device_and_vendor = refl;
       any_vendor = refl;
-      device_fFFF = refl;
+      device_ffff = refl;
       class_bytes = refl;
       bit26 = refl;
       bit25 = refl;

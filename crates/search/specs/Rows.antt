@@ -55,7 +55,7 @@ pub record SearchRows : Type 0 where
   pub any_vendor : map has_device (0x0000FFFF ∷ 0x1234FFFF ∷ 0xFFFFFFFF ∷ 0x5678FFFE ∷ [])
       ≡ true ∷ true ∷ true ∷ false ∷ []
   -- device FFFFh is one like any other: of vendor 0F0Fh and devices 0001h, FFFFh
-  pub device_fFFF : map (λ function. device_matches 0xFFFF0F0F (byte_at function))
+  pub device_ffff : map (λ function. device_matches 0xFFFF0F0F (byte_at function))
       ((0x0F ∷ 0x0F ∷ 0x01 ∷ 0x00 ∷ []) ∷ (0x0F ∷ 0x0F ∷ 0xFF ∷ 0xFF ∷ []) ∷ [])
       ≡ false ∷ true ∷ []
   -- class in bits 23..0: base, sub, programming interface

@@ -43,15 +43,15 @@ contests_is w v lw lv = (
       rw (
         another_by v w c.other,
         eq-eqb v.space w.space c.space,
-        lt-ltb v.start (end w) (omega (arith, c.from-v, c.to-w)),
-        lt-ltb w.start (end v) (omega (arith, c.from-w, c.to-v)),
+        lt-ltb v.start (end w) (omega (arith, c.from_v, c.to_w)),
+        lt-ltb w.start (end v) (omega (arith, c.from_w, c.to_v)),
       ),
 )
 
 -- marks play no part in it
 remarked : (m n m' n' : Bool) (w v : Window) → Contests (with_mark m w) (with_mark n v) → Contests (with_mark m' w) (with_mark n' v)
 remarked m n m' n' w v c =
-    record { other = c.other; space = c.space; address = c.address; from_v = c.from-v; to_v = c.to-v; from_w = c.from-w; to_w = c.to-w }
+    record { other = c.other; space = c.space; address = c.address; from_v = c.from_v; to_v = c.to_v; from_w = c.from_w; to_w = c.to_w }
 
 none_of : (v : Window) (l : List Window) → EveryWindow (λ w. another w v ≡ true) l → how_many (same_register v) l ≡ 0
 none_of v [] a = refl

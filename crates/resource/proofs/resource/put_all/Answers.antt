@@ -1,0 +1,43 @@
+-- `put_all`: the descriptor of a window is stored; a base register with none is passed over.
+use Rattle.std.proofs.Common.{◌*◌, ◌∙◌, sym, arith}
+use Rattle.std.proofs.Math.Seq.{length-sets}
+use Rattle.resource_descriptor.specs.Descriptor.{size}
+use Rattle.resource.specs.Resource.{source_of}
+use Rattle.resource.proofs.Turns.{windows_one, windows_none, windows_end, last_one, put_more, put_end}
+use Rattle.resource.proofs.resource.put_all.Goals as goal
+
+pub loop-b-preserved-then-not-is_window : goal.loop-b-preserved-then-not-is_window
+loop-b-preserved-then-not-is_window c =
+    let a = c.args in
+    let l = c.loop-b in
+    let s = source_of a.records.now a.registers.now a.windows.now a.handle in
+    let e = windows_none s.exponent l.b (omega arith)
+    (rw (← c.place-function.ensures, ← c.exponent.ensures) (sym c.is_window.ensures ∙ c.if-not-is_window.true)) in
+    record {
+      few = omega arith;
+      sized = l.invariant.sized;
+      left = rw e at l.invariant.left;
+      ends = rw e at l.invariant.ends;
+    }
+
+pub loop-b-preserved : goal.loop-b-preserved
+loop-b-preserved c =
+    let a = c.args in
+    let l = c.loop-b in
+    let s = source_of a.records.now a.registers.now a.windows.now a.handle in
+    let e = windows_one s.exponent l.b (omega arith)
+    (rw (← c.place-function.ensures, ← c.exponent.ensures) (sym c.is_window.ensures ∙ c.if-not-is_window.false)) in
+    let t = rw e at l.invariant.left in
+    record {
+      few = omega arith;
+      sized = rw c.put.ensures (simp length-sets l.invariant.sized);
+      left = omega (arith, t);
+      ends = rw (c.put.ensures, c.descriptor_of-d.ensures, last_one _ _ _ t) (put_more s _ _ _ _ ∙ rw e at l.invariant.ends);
+    }
+
+pub returns : goal.returns
+returns c =
+    let a = c.args in
+    let s = source_of a.records.now a.registers.now a.windows.now a.handle in
+    let e = windows_end s.exponent c.loop-b.b c.loop-b-test.false in
+    sym (put_end s c.loop-b.out (size * c.loop-b.n)) ∙ rw e at c.loop-b.invariant.ends

@@ -1,0 +1,9 @@
+-- `find_pci_classcode`: an unknown edition refuses before any function is looked at.
+use Rattle.std.proofs.Common.{sym, ◌∙◌}
+use Rattle.search.specs.Search.{sought_at}
+use Rattle.search.proofs.Searches.{finds}
+use Rattle.search.proofs.search.find_pci_classcode.Goals as goal
+
+pub returns-then-not-is_known : goal.returns-then-not-is_known
+unfolding sought_at
+returns-then-not-is_known c = finds _ _ _ (rw (sym c.is_known.ensures ∙ c.if-not-is_known.true))

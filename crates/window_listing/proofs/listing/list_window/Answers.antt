@@ -1,0 +1,13 @@
+-- `list_window`: the count of windows tells the end, and before it the number at the index says the
+-- window.
+use Rattle.std.proofs.Common.{◌∙◌, arith}
+use Rattle.window_listing.proofs.Answers.{lists_past, lists_at}
+use Rattle.window_listing.proofs.listing.list_window.Goals as goal
+
+pub returns-then-kept_count-n : goal.returns-then-kept_count-n
+returns-then-kept_count-n c = lists_past _ _ (omega (arith, c.kept_count.ensures, c.if-kept_count-n.true))
+
+pub returns : goal.returns
+returns c =
+    lists_at _ _ _ (omega (arith, c.kept_count.ensures, c.if-kept_count-n.false))
+    (c.listed.ensures ∙ rw c.u64_at.ensures)
