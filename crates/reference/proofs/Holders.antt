@@ -25,7 +25,7 @@ in_middle v (u ∷ before) after = inr (in_middle v before after)
 -- a mark plays no part in what contests a window
 remarked : (c d : Bool) (u x : Window) → Contests (with_mark c u) x → Contests (with_mark d u) x
 remarked c d u x t =
-    record { other = t.other; space = t.space; address = t.address; from_v = t.from-v; to_v = t.to-v; from_w = t.from-w; to_w = t.to-w }
+    record { other = t.other; space = t.space; address = t.address; from_v = t.from_v; to_v = t.to_v; from_w = t.from_w; to_w = t.to_w }
 
 module _ (b : Reference) (w space handle address : ℕ) where
   abbrev k : ℕ → ℕ → ℕ
