@@ -1,8 +1,6 @@
 -- `run`: the parts cleared, then a turn for each call.
 use Rattle.std.proofs.Common.{arith, sym, ◌∙◌}
-use Rattle.board.specs.Parts.{parts}
-use Rattle.reference.specs.Run.{start}
-use Rattle.script.proofs.Loop.{Went, going_start, stopped, goes_on, at_end}
+use Rattle.script.proofs.Loop.{going_start, stopped, goes_on, at_end}
 use Rattle.script.proofs.Runs.{as_reference}
 use Rattle.script.proofs.run.run.Goals as goal
 
