@@ -13,7 +13,7 @@ use crate::forms::{CELLS_ABOVE, CELLS_CUT, NO_TRACE, OTHER_VERSION, print};
 use crate::read::read_full;
 use numbers::number::{Width, big_at};
 use std::io;
-use std::io::{BufReader, LineWriter, Read, Write};
+use std::io::{Read, Write};
 
 // "PCIT", and the version of the format that is known here.
 const MAGIC: u32 = 0x50434954;
@@ -63,8 +63,8 @@ fn run<R: Read, W: Write>(input: &mut R, out: &mut W, cells: &mut [u8]) -> io::R
 
 // Each line goes out before the next call is read.
 fn main(rt: HostRuntime) -> io::Result<()> {
-    let mut input = BufReader::new(rt.alloc(), rt.stdin())?;
-    let mut out = LineWriter::new(rt.alloc(), io::writer(&rt))?;
+    let mut input = rt.stdin();
+    let mut out = io::writer(&rt);
     let mut cells = [0u8; CELLS];
     if let Opening::Cells(length) = open(&mut input, &mut out)? {
         if CELLS < length {

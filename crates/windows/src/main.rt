@@ -13,7 +13,7 @@ use image_check::check::IMAGE;
 use image_refusals::verdict::{CELLS, is_accepted};
 use load::calls::load;
 use std::io;
-use std::io::{BufWriter, Read, Write};
+use std::io::{Read, Write};
 use window_listing::listing::{ListedWindow, Listing, list_window};
 
 // Room for the longest image and one byte more, so that a longer one is seen to be longer.
@@ -140,7 +140,7 @@ fn main(rt: HostRuntime) -> io::Result<()> {
         &mut used,
         &mut cells,
     );
-    let mut out = BufWriter::new(rt.alloc(), io::writer(&rt))?;
+    let mut out = io::writer(&rt);
     if is_accepted(verdict) {
         list(&mut out, &windows)?;
     } else {
