@@ -1,4 +1,4 @@
-/* The functions of the proved library, target/staticlib/libbios.a, as C calls them: a prototype for
+/* The functions of the proved library, crates/bios/out/libbios.a, as C calls them: a prototype for
    each export of crates/bios/src, file by file in the order of its lib.rt. Programs use pci_bios.h;
    only pci_bios.c and the tests' rerun.c call these.
 

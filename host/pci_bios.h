@@ -1,5 +1,5 @@
-/* The calls on a modelled board, for C. Link pci_bios.c and target/staticlib/libbios.a, which
-   `rt staticlib bios` makes. */
+/* The calls on a modelled board, for C. Link pci_bios.c and crates/bios/out/libbios.a, which
+   `rt lib` makes in crates/bios. */
 #ifndef PCI_BIOS_H
 #define PCI_BIOS_H
 

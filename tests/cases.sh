@@ -4,7 +4,7 @@
 # boards/; REPLAY names another program to run.
 set -eu
 cd "$(dirname "$0")/.."
-replay=${REPLAY:-target/bin/replay}
+replay=${REPLAY:-crates/replay/out/replay}
 make_trace=target/tests/release/make_trace
 made=target/cases
 mkdir -p "$made"

@@ -20,7 +20,7 @@ fail() {
 build() {
     program=target/host/$1 more=$2
     shift 2
-    cc $flags $more "$@" host/pci_bios.c target/staticlib/libbios.a -o "$program"
+    cc $flags $more "$@" host/pci_bios.c crates/bios/out/libbios.a -o "$program"
 }
 
 # same NAME IMAGE STORED ARGUMENT ..: what target/host/NAME prints for a board, and that it ends

@@ -2,20 +2,23 @@
 # Tries what pages say: tests/page.sh PAGE .. . In a page a file stands after `<!-- file NAME -->`,
 # and commands with what they print after `<!-- run -->`, each indented by four spaces up to the
 # next line that is not. The commands are run in a folder of their own, where the repository's
-# folders are at hand, and the output compared.
+# folders are at hand, and the output compared. It is outside the repository, in which `rt ci`
+# refuses links.
 set -eu
 cd "$(dirname "$0")/.."
 root=$PWD
+made=$(mktemp -d)
+trap 'rm -rf "$made"' EXIT
 
-# prepare PAGE: the empty folder target/page, with the page's files, its commands in `run`, and the
-# folders that they name.
+# prepare PAGE: the folder $made/page, with the page's files, its commands in `run`, and the folders
+# that they name.
 prepare() {
-    rm -rf target/page
-    mkdir -p target/page/target
-    for folder in boards crates host target/bin target/staticlib target/tests; do
-        ln -s "$root/$folder" "target/page/$folder"
+    rm -rf "$made/page"
+    mkdir -p "$made/page/target"
+    for folder in boards crates host target/tests; do
+        ln -s "$root/$folder" "$made/page/$folder"
     done
-    awk -v to=target/page/ '
+    awk -v to="$made/page/" '
         /^<!-- run -->$/ { name = "run"; next }
         /^<!-- file [^ ]* -->$/ { name = $3; next }
         /^[^ ]/ { name = "" }
@@ -34,10 +37,10 @@ perform() {
 
 for page in "$@"; do
     prepare "$page"
-    (cd target/page && perform > printed)
-    diff target/page/run target/page/printed || {
+    (cd "$made/page" && perform > printed)
+    diff "$made/page/run" "$made/page/printed" || {
         echo "page: $page differs (< page, > printed)"
         exit 1
     }
-    echo "page: $page, $(grep -c '^\$ ' target/page/run) commands, equal"
+    echo "page: $page, $(grep -c '^\$ ' "$made/page/run") commands, equal"
 done

@@ -4,7 +4,7 @@
 # tests/run builds.
 set -eu
 cd "$(dirname "$0")/.."
-replay=${REPLAY:-target/bin/replay}
+replay=${REPLAY:-crates/replay/out/replay}
 makers=target/tests/release
 made=target/replay
 mkdir -p "$made"

@@ -4,7 +4,7 @@
 # builds.
 set -eu
 cd "$(dirname "$0")/.."
-windows=${WINDOWS:-target/bin/windows}
+windows=${WINDOWS:-crates/windows/out/windows}
 make_board=target/tests/release/make_board
 mkdir -p target/boards
 

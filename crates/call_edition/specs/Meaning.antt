@@ -1,16 +1,8 @@
 -- What an edition means, in other words and without the proofs: request E1, "the two must agree
 -- after the ID halves are exchanged; where the offset is 0, data calls agree too".
-use Rattle.std.specs.Prelude.{ℕ, ◌+◌, ◌*◌, ◌%◌, ◌^◌, ◌<◌, false, ◌≡◌}
+use Rattle.std.specs.Prelude.{ℕ, ◌+◌, ◌*◌, ◌^◌, ◌<◌, false, ◌≡◌}
 use Rattle.board.specs.Addresses.{bus, cpu_address}
-use Rattle.call_edition.specs.Edition.{
-  in_edition,
-  in_draft,
-  in_later,
-  is_bad_vendor,
-  id_of,
-  class_of,
-  bus_of,
-}
+use Rattle.call_edition.specs.Edition.{in_draft, in_later, is_bad_vendor, id_of, class_of, bus_of}
 
 -- vendor and device ID with exchanged halves, or a class whose bits 31..24 are 0, name the same in
 -- both; and vendor FFFFh alone is bad

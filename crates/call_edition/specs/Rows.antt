@@ -1,6 +1,6 @@
 -- Rows with literal numbers of request E1 and document 000: which editions are known, what is
 -- searched for, and which bus address is named, in each edition.
-use Rattle.std.specs.Prelude.{ℕ, true, false, List, [], ◌∷◌, map, ◌≡◌}
+use Rattle.std.specs.Prelude.{true, false, [], ◌∷◌, map, ◌≡◌}
 use Rattle.board.specs.Addresses.{bus}
 use Rattle.call_edition.specs.Edition.{
   in_edition,

@@ -6,7 +6,6 @@ ghost use Rattle.load.specs.Load.{padded};
 ghost use Rattle.load.specs.Steps.{Installed};
 
 use board::layout::{CellOffsets, FUNCTIONS, Header, RECORD, Records};
-use bytes::copy;
 use cell_layout::cells::lay_out_cells;
 use image_layout::layout::records_range;
 use image_layout::trailer::trailer_of;
@@ -21,7 +20,7 @@ fn copy_records(image: &[u8], count: u32, records: &mut Records)
     let range = records_range(image.len(), count);
     let from = range.from;
     let to = range.to;
-    copy(&image[from..to], records);
+    records[..to - from].copy_from_slice(&image[from..to]);
 }
 
 // Header, records and offsets of an accepted image; all else follows from them.

@@ -1,18 +1,14 @@
 -- The two call editions.
-use Prim.Native.Nat.{ℕ, ◌+◌, ◌-◌, ◌*◌, ◌%◌, ◌^◌, ◌<◌}
-use native.Mathlib.Omega.{arith}
+use Prim.Native.Nat.{ℕ, ◌-◌}
 use mathlib.Core.Bool.{false}
 use mathlib.Core.List.{List}
-use mathlib.Core.Path.{◌≡◌, refl, ap}
-use lib.ListN.{length}
+use mathlib.Core.Path.{◌≡◌, ap}
 use borrow.Author.Tests.{ne_eqb}
-use Rattle.numbers.specs.Numbers.{bytes}
 use Rattle.numbers.specs.declared.number.Width.{Width}
 use Rattle.numbers.proofs.Numbers.{big_below}
 use Rattle.board.specs.Addresses.{bus_number}
 use Rattle.board.specs.Layout.{record_byte, offset_at, offset}
 use Rattle.board.specs.Parts.{Parts}
-use Rattle.board.specs.Spaces.{space_number}
 use Rattle.board.specs.declared.space.Space.{Space}
 use Rattle.call_edition.specs.Edition.{in_edition, in_draft, in_later, is_known, bus_of}
 use Rattle.call_edition.specs.declared.edition.InEdition.{InEdition}
@@ -23,7 +19,7 @@ use Rattle.call.specs.declared.call.Access.{Access}
 use Rattle.call.specs.declared.call.Access.TheVariants.{Read, FastRead, Write}
 use Rattle.call.specs.declared.call.Call.TheVariants.{Data}
 use Rattle.reference.specs.State.{queried, outcome, step}
-use Rattle.reference.specs.Editions.{EditionsAgree, ByCpuAddress, unknown_answer, UnknownEditions, UnknownRefused, Editions}
+use Rattle.reference.specs.Editions.{EditionsAgree, ByCpuAddress, unknown_answer, UnknownRefused, Editions}
 
 -- data calls that name the same bus address in known editions are the same call
 bus_alike : (p : Parts) (space : Space) (width : Width) (handle draft later : ℕ) (access : Access) (own : List ℕ)

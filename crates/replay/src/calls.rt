@@ -3,17 +3,17 @@
 ghost use Rattle.std.specs.Prelude.{◌≡◌, length};
 
 use crate::forms::{CALLS, MALFORMED, OWN_ABOVE, form_line, print};
+use crate::read::read_full;
 use board::layout::{
     CellOffsets, FUNCTIONS, HOOK, Header, Hooks, MARK, RECORD, REGISTER_BYTES, Records, Registers,
     Used, WINDOWS, Windows,
 };
-use bytes::copy;
 use call_encoding::decode::{Decoded, decode};
 use call_encoding::encode::{CALL_HEADER, OWN_LENGTH};
-use libc::STDIN_FILENO;
 use numbers::number::{Width, big_at};
 use script::turn::turn;
-use std::num::wrapping_add_u64;
+use std::io;
+use std::io::{Read, Write};
 
 // The longest own buffer of a call in a trace.
 const OWN: usize = 65537;
@@ -23,59 +23,67 @@ type RequestHeader = [u8; CALL_HEADER];
 
 // Reads the own buffer of the call whose header stands in the room. Gives the line that is printed
 // where the call is none, else 0.
-fn read_own(room: &mut [u8], own: u32) -> u32
+fn read_own<R: Read>(input: &mut R, room: &mut [u8], own: u32) -> io::Result<u32>
     requires { 65601 ≡ length room.old }
 {
     let end = CALL_HEADER + own as usize;
     if room.len() < end {
-        return OWN_ABOVE;
+        return Ok(OWN_ABOVE);
     }
-    if io::read_full(STDIN_FILENO, &mut room[CALL_HEADER..end]) < own as usize {
-        return MALFORMED;
+    if read_full(input, &mut room[CALL_HEADER..end])? < own as usize {
+        return Ok(MALFORMED);
     }
-    0
+    Ok(0)
 }
 
 // Reads the next call, its header into `request` and the whole into the room; gives as above.
-fn read_call(request: &mut RequestHeader, room: &mut [u8]) -> u32
+fn read_call<R: Read>(
+    input: &mut R,
+    request: &mut RequestHeader,
+    room: &mut [u8],
+) -> io::Result<u32>
     requires { 65601 ≡ length room.old }
 {
-    let got = io::read_full(STDIN_FILENO, request);
+    let got = read_full(input, request)?;
     if got == 0 {
-        return CALLS;
+        return Ok(CALLS);
     }
     if got < CALL_HEADER {
-        return MALFORMED;
+        return Ok(MALFORMED);
     }
     match decode(request) {
         Decoded::Known { call: _, own } => {
-            copy(request, room);
-            read_own(room, own)
+            room[..CALL_HEADER].copy_from_slice(request);
+            read_own(input, room, own)
         }
-        Decoded::Malformed => MALFORMED,
+        Decoded::Malformed => Ok(MALFORMED),
     }
 }
 
 // Prints a call that was performed in place.
-fn print_call(request: &RequestHeader, call: &[u8]) {
+fn print_call<W: Write>(out: &mut W, request: &RequestHeader, call: &[u8]) -> io::Result<()> {
     let own = big_at(request, OWN_LENGTH, Width::Long);
-    print(form_line(request, call), own as u64, request, call);
+    print(out, form_line(request, call), own as u64, request, call)
 }
 
 // Prints the last line: with the calls where the script ended, else with the position where the
 // replay stops.
-fn print_end(line: u32, calls: u64, at: u64) {
+fn print_end<W: Write>(out: &mut W, line: u32, calls: u64, at: u64) -> io::Result<()> {
     if line == CALLS {
-        print(line, calls, b"", b"");
+        print(out, line, calls, b"", b"")
     } else {
-        print(line, at, b"", b"");
+        print(out, line, at, b"", b"")
     }
 }
 
 // Performs and prints the calls up to the end of the input, from the board before the first load. A
 // proved loop has to end, and nothing says that the input does: so it counts calls up to a number
 // that no trace reaches.
-pub(crate) fn replay(cells: &mut [u8]) {
+pub(crate) fn replay<R: Read, W: Write>(
+    input: &mut R,
+    out: &mut W,
+    cells: &mut [u8],
+) -> io::Result<()> {
     let mut request: RequestHeader = [0u8; CALL_HEADER];
     let mut room = [0u8; CALL_HEADER + OWN];
     let mut header: Header = [0u32; 4];
@@ -85,14 +93,12 @@ pub(crate) fn replay(cells: &mut [u8]) {
     let mut offsets: CellOffsets = [0u32; WINDOWS + 1];
     let mut hooks: Hooks = [0u32; HOOK * FUNCTIONS];
     let mut used: Used = [0u32; MARK * FUNCTIONS];
-    let mut calls: u64 = 0;
     let mut at: u64 = 0;
     // Invariant: the room and the cells keep their lengths.
-    while calls < u64::MAX {
-        let line = read_call(&mut request, &mut room);
+    for calls in 0..u64::MAX {
+        let line = read_call(input, &mut request, &mut room)?;
         if line != 0 {
-            print_end(line, calls, at);
-            return;
+            return print_end(out, line, calls, at);
         }
         let took = turn(
             &mut room,
@@ -105,8 +111,8 @@ pub(crate) fn replay(cells: &mut [u8]) {
             &mut used,
             cells,
         );
-        print_call(&request, &room);
-        at = wrapping_add_u64(at, took as u64);
-        calls += 1;
+        print_call(out, &request, &room)?;
+        at = at.wrapping_add(took as u64);
     }
+    Ok(())
 }

@@ -3,42 +3,42 @@ use crate::print::{decimal, hexadecimal, text};
 use board::layout::BASES;
 use resource_descriptor::descriptor::Descriptor;
 use resource_walk::step::{Step, descriptor_step};
+use std::io;
+use std::io::Write;
 
 // The fields of a descriptor in their order.
-fn fields(d: Descriptor) {
-    text(b"next ");
-    decimal(d.next as u64);
-    text(b" flags 0x");
-    hexadecimal(d.flags as u32, 2);
-    text(b" start 0x");
-    hexadecimal(d.start, 4);
-    text(b" length 0x");
-    hexadecimal(d.length, 4);
-    text(b" offset 0x");
-    hexadecimal(d.offset, 4);
-    text(b" dmaoffset 0x");
-    hexadecimal(d.dmaoffset, 4);
+fn fields<W: Write>(out: &mut W, d: Descriptor) -> io::Result<()> {
+    text(out, b"next ")?;
+    decimal(out, d.next as u64)?;
+    text(out, b" flags 0x")?;
+    hexadecimal(out, d.flags as u32, 2)?;
+    text(out, b" start 0x")?;
+    hexadecimal(out, d.start, 4)?;
+    text(out, b" length 0x")?;
+    hexadecimal(out, d.length, 4)?;
+    text(out, b" offset 0x")?;
+    hexadecimal(out, d.offset, 4)?;
+    text(out, b" dmaoffset 0x")?;
+    hexadecimal(out, d.dmaoffset, 4)
 }
 
 // The descriptors from a position on, up to the last mark; a function has no more of them than base
 // registers.
-pub(crate) fn descriptors(bytes: &[u8], from: usize) {
+pub(crate) fn descriptors<W: Write>(out: &mut W, bytes: &[u8], from: usize) -> io::Result<()> {
     let mut at = from;
-    let mut n = 0;
-    // Invariant: n is at most 6.
-    while n < BASES {
+    for n in 0..BASES {
         let Step::Found {
             descriptor,
             following,
         } = descriptor_step(bytes, at)
         else {
-            return;
+            return Ok(());
         };
         if 0 < n {
-            text(b"; ");
+            text(out, b"; ")?;
         }
-        fields(descriptor);
+        fields(out, descriptor)?;
         at = following;
-        n += 1;
     }
+    Ok(())
 }

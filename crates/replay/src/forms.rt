@@ -6,6 +6,8 @@ use crate::descriptors::descriptors;
 use crate::print::{decimal, hexadecimal, text};
 use call_encoding::encode::CALL_HEADER;
 use numbers::number::{Width, big_at, byte_at, wide};
+use std::io;
+use std::io::Write;
 
 // The lines after those of the calls.
 pub(crate) const NO_TRACE: u32 = 48;
@@ -47,54 +49,53 @@ fn size(letter: u8, width: u8) -> u8 {
     }
 }
 
-fn show(s: &[u8], at: usize, bytes: u8) {
+fn show<W: Write>(out: &mut W, s: &[u8], at: usize, bytes: u8) -> io::Result<()> {
     let n = big_at(s, at, Width::Long);
     if bytes == 0 {
-        decimal(n as u64);
+        decimal(out, n as u64)
     } else {
-        hexadecimal(n, bytes);
+        hexadecimal(out, n, bytes)
     }
 }
 
 // The number of an answer, which is in two's complement.
-fn number(call: &[u8]) {
+fn number<W: Write>(out: &mut W, call: &[u8]) -> io::Result<()> {
     let n = big_at(call, 0, Width::Long) as u64;
     if n < 0x80000000 {
-        decimal(n);
+        decimal(out, n)
     } else {
-        text(b"-");
-        decimal(0x100000000 - n);
+        text(out, b"-")?;
+        decimal(out, 0x100000000 - n)
     }
 }
 
 // Prints the call's edition as a last argument, where it is not the later text: argument c of the
 // header is the edition with 0 and 2 exchanged.
-fn edition(request: &[u8]) {
+fn edition<W: Write>(out: &mut W, request: &[u8]) -> io::Result<()> {
     let c = big_at(request, 16, Width::Long);
     if c == 0 {
-        return;
+        return Ok(());
     }
-    text(b", edition ");
+    text(out, b", edition ")?;
     if c == 2 {
-        decimal(0);
-        return;
+        return decimal(out, 0);
     }
-    decimal(c as u64);
+    decimal(out, c as u64)
 }
 
 // Prints what a letter stands for: beside the positions above, I is the register or bus, K the
 // edition, N a number that is handed over, W descriptors, X and Y the answer's number.
-fn put(letter: u8, n: u64, request: &[u8], call: &[u8]) {
+fn put<W: Write>(out: &mut W, letter: u8, n: u64, request: &[u8], call: &[u8]) -> io::Result<()> {
     let size = size(letter, byte_at(request, 1));
     match letter {
-        b'I' => hexadecimal(wide(byte_at(request, 3)), 1),
-        b'K' => edition(request),
-        b'N' => decimal(n),
-        b'W' => descriptors(call, CALL_HEADER),
-        b'X' | b'Y' => number(call),
-        b'Z' | b'\n' => {}
-        b'A'..=b'M' => show(request, position(letter), size),
-        _ => show(call, position(letter), size),
+        b'I' => hexadecimal(out, wide(byte_at(request, 3)), 1),
+        b'K' => edition(out, request),
+        b'N' => decimal(out, n),
+        b'W' => descriptors(out, call, CALL_HEADER),
+        b'X' | b'Y' => number(out, call),
+        b'Z' | b'\n' => Ok(()),
+        b'A'..=b'M' => show(out, request, position(letter), size),
+        _ => show(out, call, position(letter), size),
     }
 }
 
@@ -112,7 +113,14 @@ fn ends(letter: u8, call: &[u8]) -> bool {
 }
 
 // Prints the form on a line, from 0.
-fn fill(forms: &[u8], line: u32, n: u64, request: &[u8], call: &[u8]) {
+fn fill<W: Write>(
+    out: &mut W,
+    forms: &[u8],
+    line: u32,
+    n: u64,
+    request: &[u8],
+    call: &[u8],
+) -> io::Result<()> {
     let mut before = line;
     let mut from = 0;
     let mut i = 0;
@@ -126,20 +134,27 @@ fn fill(forms: &[u8], line: u32, n: u64, request: &[u8], call: &[u8]) {
             i += 1;
             from = i;
         } else {
-            text(&forms[from..i]);
-            put(letter, n, request, call);
+            text(out, &forms[from..i])?;
+            put(out, letter, n, request, call)?;
             if ends(letter, call) {
-                return;
+                return Ok(());
             }
             i += 1;
             from = i;
         }
     }
+    Ok(())
 }
 
 // Prints a line of the table with a number, a call's header as it was read, and the call as it was
 // answered.
-pub(crate) fn print(line: u32, n: u64, request: &[u8], call: &[u8]) {
+pub(crate) fn print<W: Write>(
+    out: &mut W,
+    line: u32,
+    n: u64,
+    request: &[u8],
+    call: &[u8],
+) -> io::Result<()> {
     let forms = b"
 load(N bytes) = Y, record R
 reset() = X
@@ -196,8 +211,8 @@ own buffer above 65537 bytes at byte N of the script
 malformed call at byte N of the script
 N calls
 ";
-    fill(forms, line, n, request, call);
-    text(b"\n");
+    fill(out, forms, line, n, request, call)?;
+    text(out, b"\n")
 }
 
 // The line of a call that was answered: by its operation, width and space; of a listed window by

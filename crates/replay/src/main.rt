@@ -6,11 +6,14 @@ mod calls;
 mod descriptors;
 mod forms;
 mod print;
+mod read;
 
 use crate::calls::replay;
 use crate::forms::{CELLS_ABOVE, CELLS_CUT, NO_TRACE, OTHER_VERSION, print};
-use libc::STDIN_FILENO;
+use crate::read::read_full;
 use numbers::number::{Width, big_at};
+use std::io;
+use std::io::{BufReader, LineWriter, Read, Write};
 
 // "PCIT", and the version of the format that is known here.
 const MAGIC: u32 = 0x50434954;
@@ -30,42 +33,45 @@ enum Opening {
 }
 
 // Prints a line and no more.
-fn refuse(line: u32, n: u32) -> Opening {
-    print(line, n as u64, b"", b"");
-    Opening::Refused
+fn refuse<W: Write>(out: &mut W, line: u32, n: u32) -> io::Result<Opening> {
+    print(out, line, n as u64, b"", b"")?;
+    Ok(Opening::Refused)
 }
 
 // Reads what stands before the cells; says what is wrong with it.
-fn open() -> Opening {
+fn open<R: Read, W: Write>(input: &mut R, out: &mut W) -> io::Result<Opening> {
     let mut opening = [0u8; OPENING];
-    let got = io::read_full(STDIN_FILENO, &mut opening);
+    let got = read_full(input, &mut opening)?;
     let version = big_at(&opening, 4, Width::Long);
     if (got < OPENING) | (big_at(&opening, 0, Width::Long) != MAGIC) {
-        return refuse(NO_TRACE, 0);
+        return refuse(out, NO_TRACE, 0);
     }
     if version != VERSION {
-        return refuse(OTHER_VERSION, version);
+        return refuse(out, OTHER_VERSION, version);
     }
-    Opening::Cells(big_at(&opening, 8, Width::Long) as usize)
+    Ok(Opening::Cells(big_at(&opening, 8, Width::Long) as usize))
 }
 
 // Reads the cells, then replays the calls.
-fn run(cells: &mut [u8]) {
-    if io::read_full(STDIN_FILENO, cells) < cells.len() {
-        refuse(CELLS_CUT, 0);
-        return;
+fn run<R: Read, W: Write>(input: &mut R, out: &mut W, cells: &mut [u8]) -> io::Result<()> {
+    if read_full(input, cells)? < cells.len() {
+        refuse(out, CELLS_CUT, 0)?;
+        return Ok(());
     }
-    replay(cells);
+    replay(input, out, cells)
 }
 
-fn main() {
-    let mut cells = io::large_buffer();
-    let Opening::Cells(length) = open() else {
-        return;
-    };
-    if CELLS < length {
-        refuse(CELLS_ABOVE, 0);
-        return;
+// Each line goes out before the next call is read.
+fn main(rt: HostRuntime) -> io::Result<()> {
+    let mut input = BufReader::new(rt.alloc(), rt.stdin())?;
+    let mut out = LineWriter::new(rt.alloc(), io::writer(&rt))?;
+    let mut cells = [0u8; CELLS];
+    if let Opening::Cells(length) = open(&mut input, &mut out)? {
+        if CELLS < length {
+            refuse(&mut out, CELLS_ABOVE, 0)?;
+        } else {
+            run(&mut input, &mut out, &mut cells[..length])?;
+        }
     }
-    run(&mut cells[..length]);
+    out.flush()
 }

@@ -1,10 +1,9 @@
 // One call of a script: the step of a run, for a caller that has the calls one by one.
-ghost use Rattle.std.specs.Prelude.{◌≡◌};
+ghost use Rattle.std.specs.Prelude.{◌≡◌, ◌≤◌, ◌++◌, length, drop};
 ghost use Rattle.board.specs.Parts.{parts};
 ghost use Rattle.script.specs.Script.{front, ran, turn_of};
 
 use board::layout::{CellOffsets, Header, Hooks, Records, Registers, Used, Windows};
-use bytes::copy;
 use call_encoding::answer::answer_bytes;
 use call_encoding::decode::{Decoded, decode};
 use call_encoding::encode::CALL_HEADER;
@@ -30,6 +29,14 @@ fn front(script: &[u8]) -> Decoded
         }
         Decoded::Malformed => Decoded::Malformed,
     }
+}
+
+// Copies bytes over the first of a longer slice.
+fn copy(from: &[u8], to: &mut [u8])
+    requires { length from.now ≤ length to.old }
+    ensures { to.new ≡ from.now ++ drop (length from.now) to.old }
+{
+    to[..from.len()].copy_from_slice(from);
 }
 
 // Performs the call at the front of a script, in place. Gives the bytes that it takes, and 0 where

@@ -2,17 +2,18 @@
 // its cases". The count is printed before the windows, so that the list is gone through twice.
 #![tactic(auto)]
 
-ghost use Rattle.std.specs.Prelude.{◌≡◌, length};
+ghost use Rattle.std.specs.Prelude.{◌≡◌, ◌<◌, ◌≤◌, length, take, IfOk, OnOk};
+ghost use Rattle.std.specs.Io.KnownBytes.{Appends, Consumes, IsAtEnd};
 
 use board::layout::{
     CellOffsets, FUNCTIONS, HOOK, Header, Hooks, MARK, RECORD, REGISTER_BYTES, Records, Registers,
     Used, WINDOWS, Windows,
 };
 use image_check::check::IMAGE;
-use image_refusals::verdict::is_accepted;
-use libc::{STDIN_FILENO, STDOUT_FILENO};
+use image_refusals::verdict::{CELLS, is_accepted};
 use load::calls::load;
-use numbers::number::bits;
+use std::io;
+use std::io::{BufWriter, Read, Write};
 use window_listing::listing::{ListedWindow, Listing, list_window};
 
 // Room for the longest image and one byte more, so that a longer one is seen to be longer.
@@ -22,41 +23,64 @@ fn input_buffer() -> [u8; IMAGE + 1]
     [0u8; IMAGE + 1]
 }
 
-fn text(s: &[u8]) {
-    io::write_all(STDOUT_FILENO, s);
+// Reads until the buffer is full or the input ends; gives how many bytes it put at the buffer's
+// start.
+fn read_full<R: Read>(input: &mut R, buffer: &mut [u8]) -> io::Result<usize>
+    ensures bound { IfOk result (λ n. n ≤ length buffer.new) }
+    ensures bytes { IfOk result (λ n. Consumes (R.remaining input.old) (R.remaining input.new)
+        (take n buffer.new)) }
+    ensures end { IfOk result (λ n. n < length buffer.new → IsAtEnd (R.remaining input.new)) }
+{
+    let mut done = 0;
+    // Invariant: the first done bytes of the buffer, whose length stays, are those that were read.
+    while done < buffer.len() {
+        let n = input.read(&mut buffer[done..])?;
+        if n == 0 {
+            return Ok(done);
+        }
+        done += n;
+    }
+    Ok(done)
 }
 
-fn range(start: u32, length: u32) {
-    io::print_hex(STDOUT_FILENO, start as u64, 8);
-    text(b" ");
-    io::print_hex(STDOUT_FILENO, length as u64, 8);
+fn text<W: Write>(out: &mut W, s: &[u8]) -> io::Result<()>
+    ensures { OnOk result (Appends (W.contents out.old) (W.contents out.new) s.now) }
+{
+    out.write_all(s)
+}
+
+fn range<W: Write>(out: &mut W, start: u32, length: u32) -> io::Result<()> {
+    write!(out, "{start:08x} {length:08x}")
 }
 
 // Space, start and length in eight hexadecimal digits, handle, base register, mark.
-fn show(window: ListedWindow, handle: u32, base: u32, contested: bool) {
+fn show<W: Write>(
+    out: &mut W,
+    window: ListedWindow,
+    handle: u32,
+    base: u32,
+    contested: bool,
+) -> io::Result<()> {
     match window {
         ListedWindow::Memory { start, length } => {
-            text(b"mem ");
-            range(start.number(), length);
+            text(out, b"mem ")?;
+            range(out, start.number(), length)?;
         }
         ListedWindow::Io { start, length } => {
-            text(b"io ");
-            range(start.number(), length);
+            text(out, b"io ")?;
+            range(out, start.number(), length)?;
         }
     }
-    text(b" ");
-    io::print_decimal(STDOUT_FILENO, handle as u64);
-    text(b" ");
-    io::print_decimal(STDOUT_FILENO, base as u64);
+    write!(out, " {handle} {base}")?;
     if contested {
-        text(b" contested\n");
+        text(out, b" contested\n")
     } else {
-        text(b" clear\n");
+        text(out, b" clear\n")
     }
 }
 
 // Whether there is a window n; shows it where that is asked for.
-fn window(windows: &Windows, n: u32, shown: bool) -> bool {
+fn window<W: Write>(out: &mut W, windows: &Windows, n: u32, shown: bool) -> io::Result<bool> {
     match list_window(windows, n) {
         Listing::Found {
             window,
@@ -65,50 +89,39 @@ fn window(windows: &Windows, n: u32, shown: bool) -> bool {
             contested,
         } => {
             if shown {
-                show(window, handle, base, contested);
+                show(out, window, handle, base, contested)?;
             }
-            true
+            Ok(true)
         }
-        Listing::Refused(status) => false,
+        Listing::Refused(_) => Ok(false),
     }
 }
 
 // Goes through the windows in order; gives how many there are.
-fn walk(windows: &Windows, shown: bool) -> u32 {
-    let mut n = 0;
-    // Invariant: n is at most 96, the windows of a board at most.
-    while n < WINDOWS as u32 {
-        if !window(windows, n, shown) {
-            return n;
+fn walk<W: Write>(out: &mut W, windows: &Windows, shown: bool) -> io::Result<u32> {
+    for n in 0..WINDOWS as u32 {
+        if !window(out, windows, n, shown)? {
+            return Ok(n);
         }
-        n += 1;
     }
-    n
+    Ok(WINDOWS as u32)
 }
 
-fn list(windows: &Windows) {
-    text(b"windows ");
-    io::print_decimal(STDOUT_FILENO, walk(windows, false) as u64);
-    text(b"\n");
-    walk(windows, true);
+fn list<W: Write>(out: &mut W, windows: &Windows) -> io::Result<()> {
+    let count = walk(out, windows, false)?;
+    writeln!(out, "windows {count}")?;
+    walk(out, windows, true)?;
+    Ok(())
 }
 
-fn refuse(number: i32) {
-    text(b"refused ");
-    let n = bits(number) as u64;
-    if number < 0 {
-        text(b"-");
-        io::print_decimal(STDOUT_FILENO, 4294967296 - n);
-    } else {
-        io::print_decimal(STDOUT_FILENO, n);
-    }
-    text(b"\n");
+fn refuse<W: Write>(out: &mut W, number: i32) -> io::Result<()> {
+    writeln!(out, "refused {number}")
 }
 
-fn main() {
+fn main(rt: HostRuntime) -> io::Result<()> {
     let mut input = input_buffer();
-    let n = io::read_full(STDIN_FILENO, &mut input);
-    let mut cells = io::large_buffer();
+    let n = read_full(&mut rt.stdin(), &mut input)?;
+    let mut cells = [0u8; CELLS as usize];
     let mut header: Header = [0u32; 4];
     let mut records: Records = [0u8; FUNCTIONS * RECORD];
     let mut registers: Registers = [0u8; FUNCTIONS * REGISTER_BYTES];
@@ -127,9 +140,11 @@ fn main() {
         &mut used,
         &mut cells,
     );
+    let mut out = BufWriter::new(rt.alloc(), io::writer(&rt))?;
     if is_accepted(verdict) {
-        list(&windows);
+        list(&mut out, &windows)?;
     } else {
-        refuse(verdict.number);
+        refuse(&mut out, verdict.number)?;
     }
+    out.flush()
 }

@@ -1,9 +1,7 @@
 -- `in_list`: a turn looks at the number at j, and the law of its kind says what the list gives.
-use Rattle.std.proofs.Common.{sym, ◌∙◌, get_or}
-use Rattle.board.specs.Spaces.{space_number}
+use Rattle.std.proofs.Common.{sym, ◌∙◌}
 use Rattle.board.proofs.Handles.{place_below}
-use Rattle.window.specs.Kept.{unpack}
-use Rattle.data_window.proofs.Searches.{list_none, list_here, list_on, list_end, held}
+use Rattle.data_window.proofs.Searches.{list_none, list_here, list_on, list_end}
 use Rattle.data_window.proofs.find.in_list.Goals as goal
 
 pub returns-then-is_end : goal.returns-then-is_end

@@ -1,5 +1,5 @@
 -- `put_big`: a turn stores the next digit of the reversed value.
-use Rattle.std.proofs.Common.{sym, ◌∙◌, refl, arith, length-set}
+use Rattle.std.proofs.Common.{sym, ◌∙◌, arith, length-set}
 use Rattle.numbers.specs.Numbers.{bytes, big_bytes}
 use Rattle.numbers.proofs.Numbers.{digit_less}
 use Rattle.numbers.proofs.Stores.{sets_out, store_more, store_end}
