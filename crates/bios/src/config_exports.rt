@@ -5,21 +5,23 @@ ghost use Rattle.board.specs.Handles.{function_count};
 ghost use Rattle.board.specs.Layout.{register_byte};
 ghost use Rattle.call_edition.specs.Edition.{in_edition};
 ghost use Rattle.search.specs.Search.{sought_devices, sought_classes, sought_number};
-ghost use Rattle.config_write.specs.Write.{config_written};
 ghost use Rattle.board.specs.FromC.{width_from_c};
 ghost use Rattle.bios.specs.Exports.{
-  status_number,
   read_numbers,
+  read_shown,
   c_read_config,
   fast_numbers,
   fast_shown,
   c_fast_read_config,
+  config_numbers,
+  config_shown,
   c_write_config,
 };
 
-use board::from_c::{CWidth, width_from_c};
+use board::from_c::width_from_c;
 use board::layout::{Header, Records, Registers, Windows};
-use board::status::Status;
+use board::read::value_of;
+use board::status::{CallRefusal, number_of};
 use call::searches::{class_answer, device_answer};
 use call_edition::edition::in_edition;
 use config_read::read::{fast_read_config, read_config};
@@ -72,20 +74,15 @@ pub extern "C" fn bios_read_config(
     value: &mut u32,
 ) -> i32
     ensures { read_numbers result value.new
-        ≡ c_read_config (width_from_c width) header.now registers.now
-        handle register }
+        ≡ read_shown (c_read_config (width_from_c width)
+        header.now registers.now handle register) }
 {
-    match width_from_c(width) {
-        CWidth::Known(width) => {
-            let read = read_config(header, registers, width, handle, register);
-            *value = read.value;
-            read.status.number()
-        }
-        CWidth::Other => {
-            *value = 0;
-            Status::GENERAL_ERROR.number()
-        }
-    }
+    let read = match width_from_c(width) {
+        Some(width) => read_config(header, registers, width, handle, register),
+        None => Err(CallRefusal::GeneralError),
+    };
+    *value = value_of(read);
+    number_of(read).0
 }
 
 // Reads it fast: the value, and in `fault` 1 where it is refused.
@@ -103,12 +100,12 @@ pub extern "C" fn bios_fast_read_config(
         (width_from_c width) header.now registers.now handle register) }
 {
     match width_from_c(width) {
-        CWidth::Known(width) => {
+        Some(width) => {
             let read = fast_read_config(header, registers, width, handle, register);
             *fault = read.fault as u32;
             read.value
         }
-        CWidth::Other => {
+        None => {
             *fault = 1;
             0xFFFFFFFF
         }
@@ -127,19 +124,16 @@ pub extern "C" fn bios_write_config(
     register: u8,
     value: u32,
 ) -> i32
-    ensures { config_written
-        (status_number result) registers.new windows.new
-        ≡ c_write_config (width_from_c width)
+    ensures { config_numbers result registers.new windows.new
+        ≡ config_shown (c_write_config (width_from_c width)
         header.now records.now registers.old windows.old
-        handle register value }
+        handle register value) }
 {
     match width_from_c(width) {
-        CWidth::Known(width) => {
-            let s = write_config(
-                header, records, registers, windows, width, handle, register, value,
-            );
-            s.number()
-        }
-        CWidth::Other => Status::GENERAL_ERROR.number(),
+        Some(width) => number_of(write_config(
+            header, records, registers, windows, width, handle, register, value,
+        ))
+        .0,
+        None => CallRefusal::GeneralError.number().0,
     }
 }

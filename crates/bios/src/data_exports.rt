@@ -5,23 +5,27 @@ ghost use Rattle.std.specs.Prelude.{◌≡◌};
 ghost use Rattle.call_edition.specs.Edition.{in_edition};
 ghost use Rattle.address_convert.specs.Convert.{bus_to_cpu, cpu_to_bus};
 ghost use Rattle.data_access.specs.CCalls.{c_read_data, c_fast_read_data, c_write_data};
-ghost use Rattle.data_access.specs.Data.{data_written};
 ghost use Rattle.board.specs.Addresses.{bus, cpu};
 ghost use Rattle.board.specs.Spaces.{space_number};
 ghost use Rattle.board.specs.FromC.{width_from_c, space_from_c};
 ghost use Rattle.bios.specs.Exports.{
-  status_number,
   read_numbers,
+  read_shown,
+  left,
+  cells_left,
   fast_numbers,
   fast_shown,
-  to_cpu_numbers,
-  to_bus_numbers,
+  to_cpu_shown,
+  to_bus_shown,
 };
 
 use address_convert::convert::{bus_to_cpu, cpu_to_bus};
 use board::address::{BusAddress, CpuAddress};
 use board::layout::{CellOffsets, Header, Records, Windows};
+use board::read::value_of;
+use board::status::number_of;
 use data_access::c_calls::{c_fast_read_data, c_read_data, c_write_data};
+use data_window::map::DataMap;
 
 // Reads a number of a width in a window; the value, 0 where it is refused, goes to `value`.
 #[unsafe(no_mangle)]
@@ -39,16 +43,20 @@ pub extern "C" fn bios_read_data(
     value: &mut u32,
 ) -> i32
     ensures { read_numbers result value.new
-        ≡ c_read_data (width_from_c width)
+        ≡ read_shown (c_read_data (width_from_c width)
         header.now records.now windows.now offsets.now
         cells.now (space_number (space_from_c io)) handle
-        (in_edition address edition) }
+        (in_edition address edition)) }
 {
-    let read = c_read_data(
-        header, records, windows, offsets, cells, io, width, handle, address, edition,
-    );
-    *value = read.value;
-    read.status.number()
+    let map = DataMap {
+        header: header,
+        records: records,
+        windows: windows,
+        offsets: offsets,
+    };
+    let read = c_read_data(map, cells, io, width, handle, address, edition);
+    *value = value_of(read);
+    number_of(read).0
 }
 
 // Reads it fast: the value, and in `fault` 1 where it is refused.
@@ -72,9 +80,13 @@ pub extern "C" fn bios_fast_read_data(
         cells.now (space_number (space_from_c io)) handle
         (in_edition address edition)) }
 {
-    let read = c_fast_read_data(
-        header, records, windows, offsets, cells, io, width, handle, address, edition,
-    );
+    let map = DataMap {
+        header: header,
+        records: records,
+        windows: windows,
+        offsets: offsets,
+    };
+    let read = c_fast_read_data(map, cells, io, width, handle, address, edition);
     *fault = read.fault as u32;
     read.value
 }
@@ -94,16 +106,19 @@ pub extern "C" fn bios_write_data(
     value: u32,
     edition: u32,
 ) -> i32
-    ensures { data_written (status_number result) cells.new
-        ≡ c_write_data (width_from_c width)
+    ensures { left result cells.new
+        ≡ cells_left (c_write_data (width_from_c width)
         header.now records.now windows.now offsets.now
         cells.old (space_number (space_from_c io)) handle
-        (in_edition address edition) value }
+        (in_edition address edition) value) }
 {
-    let status = c_write_data(
-        header, records, windows, offsets, cells, io, width, handle, address, value, edition,
-    );
-    status.number()
+    let map = DataMap {
+        header: header,
+        records: records,
+        windows: windows,
+        offsets: offsets,
+    };
+    number_of(c_write_data(map, cells, io, width, handle, address, value, edition)).0
 }
 
 // Where the CPU sees a bus address of a function; 0 where it is refused.
@@ -115,12 +130,15 @@ pub extern "C" fn bios_bus_to_cpu(
     address: u32,
     cpu: &mut u32,
 ) -> i32
-    ensures { to_cpu_numbers result cpu.new
-        ≡ bus_to_cpu header.now records.now handle (bus address) }
+    ensures { read_numbers result cpu.new
+        ≡ to_cpu_shown (bus_to_cpu header.now records.now handle (bus address)) }
 {
     let to = bus_to_cpu(header, records, handle, BusAddress::of(address));
-    *cpu = to.address.number();
-    to.status.number()
+    *cpu = match to {
+        Ok(address) => address.number(),
+        Err(_) => 0,
+    };
+    number_of(to).0
 }
 
 // The bus address that the CPU sees at an address; 0 where it is refused.
@@ -132,10 +150,13 @@ pub extern "C" fn bios_cpu_to_bus(
     address: u32,
     bus: &mut u32,
 ) -> i32
-    ensures { to_bus_numbers result bus.new
-        ≡ cpu_to_bus header.now records.now handle (cpu address) }
+    ensures { read_numbers result bus.new
+        ≡ to_bus_shown (cpu_to_bus header.now records.now handle (cpu address)) }
 {
     let to = cpu_to_bus(header, records, handle, CpuAddress::of(address));
-    *bus = to.address.number();
-    to.status.number()
+    *bus = match to {
+        Ok(address) => address.number(),
+        Err(_) => 0,
+    };
+    number_of(to).0
 }

@@ -1,17 +1,31 @@
 // Calls for C: numbers and lent memory in, numbers out. A slice is a pointer and a length, an array
 // or room for a number is a pointer.
-ghost use Rattle.std.specs.Prelude.{◌≡◌};
+ghost use Rattle.std.specs.Prelude.{◌≡◌, pos};
 ghost use Rattle.board.specs.Parts.{parts};
 ghost use Rattle.window.specs.Kept.{unpacked};
 ghost use Rattle.image_check.specs.Check.{checked};
-ghost use Rattle.reset.specs.Reset.{reset_outcome, reset};
-ghost use Rattle.load.specs.Load.{load_outcome, load};
-ghost use Rattle.image_writer.specs.Write.{writer_outcome, write_image};
-ghost use Rattle.bios.specs.Exports.{verdict_numbers, status_number, shown, shown_window};
+ghost use Rattle.reset.specs.Reset.{reset};
+ghost use Rattle.load.specs.Load.{load};
+ghost use Rattle.image_writer.specs.Write.{write_image};
+ghost use Rattle.bios.specs.Exports.{
+  verdict_numbers,
+  verdict_shown,
+  load_numbers,
+  load_shown,
+  reset_numbers,
+  reset_shown,
+  left,
+  out_left,
+  shown,
+  shown_window,
+};
 
 use board::layout::{CellOffsets, Header, Hooks, Records, Registers, Used, Windows};
+use board::parts::Board;
+use board::status::number_of;
 use call::answer::{Values, of_listing};
 use image_check::check::check_image;
+use image_refusals::verdict::{verdict_number, verdict_place};
 use image_writer::write::write_image;
 use load::calls::load;
 use reset::reset;
@@ -21,11 +35,11 @@ use window_listing::listing::list_window;
 // record, else 0, goes to `place`.
 #[unsafe(no_mangle)]
 pub extern "C" fn bios_check_image(image: &[u8], room: usize, place: &mut u32) -> i32
-    ensures { verdict_numbers result place.new ≡ checked image.now room }
+    ensures { verdict_numbers result place.new ≡ verdict_shown (checked image.now room) }
 {
-    let v = check_image(image, room);
-    *place = v.place;
-    v.number
+    let verdict = check_image(image, room);
+    *place = verdict_place(verdict);
+    verdict_number(verdict)
 }
 
 // Loads an image; number and place as above.
@@ -42,21 +56,29 @@ pub extern "C" fn bios_load(
     cells: &mut [u8],
     place: &mut u32,
 ) -> i32
-    ensures { load_outcome (verdict_numbers result place.new)
+    ensures { load_numbers result place.new
         (parts header.new records.new registers.new
         windows.new offsets.new
         hooks.new used.new cells.new)
-        ≡ load
+        ≡ load_shown (load
         (parts header.old records.old registers.old
         windows.old offsets.old
         hooks.old used.old cells.old)
-        image.now }
+        image.now) }
 {
-    let v = load(
-        image, header, records, registers, windows, offsets, hooks, used, cells,
-    );
-    *place = v.place;
-    v.number
+    let mut board = Board {
+        header: header,
+        records: records,
+        registers: registers,
+        windows: windows,
+        offsets: offsets,
+        hooks: hooks,
+        used: used,
+        cells: cells,
+    };
+    let verdict = load(image, &mut board);
+    *place = verdict_place(verdict);
+    verdict_number(verdict)
 }
 
 // Resets a board.
@@ -71,28 +93,28 @@ pub extern "C" fn bios_reset(
     used: &mut Used,
     cells: &mut [u8],
 ) -> i32
-    ensures { reset_outcome (status_number result)
+    ensures { reset_numbers result
         (parts header.now records.now registers.new
         windows.new offsets.now
         hooks.new used.new cells.new)
-        ≡ reset
+        ≡ reset_shown (reset
         (parts header.now records.now registers.old
         windows.old offsets.now
-        hooks.old used.old cells.old) }
+        hooks.old used.old cells.old)) }
 {
-    let s = reset(
+    number_of(reset(
         header, records, registers, windows, offsets, hooks, used, cells,
-    );
-    s.number()
+    ))
+    .0
 }
 
 // Writes the loaded board as an image; the number of the refusal, 0 for none.
 #[unsafe(no_mangle)]
 pub extern "C" fn bios_write_image(header: &Header, records: &Records, out: &mut [u8]) -> u32
-    ensures { writer_outcome result out.new
-        ≡ write_image header.now records.now out.old }
+    ensures { left (pos result) out.new
+        ≡ out_left (write_image header.now records.now out.old) }
 {
-    write_image(header, records, out) as u32
+    verdict_number(write_image(header, records, out)).cast_unsigned()
 }
 
 // Window n of the list, from 0: its number, and its values or zeros.

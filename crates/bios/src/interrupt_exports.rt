@@ -1,14 +1,25 @@
 // Hooks, chains and used marks for C, and the calls that always give -2.
 ghost use Rattle.std.specs.Prelude.{◌≡◌};
 ghost use Rattle.interrupt_array.specs.Hooks.{chain_of};
-ghost use Rattle.interrupt_hook.specs.Chain.{hook_outcome, hook_interrupt, unhook_interrupt};
-ghost use Rattle.card_used.specs.Used.{mark_outcome, get_card_used, set_card_used};
+ghost use Rattle.board.specs.Statuses.{number_of};
+ghost use Rattle.interrupt_hook.specs.Chain.{hook_interrupt, unhook_interrupt};
+ghost use Rattle.card_used.specs.Used.{get_card_used, set_card_used};
 ghost use Rattle.unsupported.specs.Unsupported.{special_cycle, get_routing, set_interrupt};
-ghost use Rattle.bios.specs.Exports.{status_number, shown, shown_hook, card_used};
+ghost use Rattle.bios.specs.Exports.{
+  left,
+  hooks_left,
+  used_left,
+  shown,
+  shown_hook,
+  used_numbers,
+  used_shown,
+};
 
 use board::layout::{Header, Hooks, Records, Used};
+use board::status::{Number, number_of};
 use call::answer::{Values, of_chain};
 use card_used::used::{get_card_used, set_card_used};
+use interrupt_array::hooks::Hook;
 use interrupt_hook::chain::{hook_interrupt, unhook_interrupt};
 use interrupt_list::listing::list_chain;
 use unsupported::{get_routing, set_interrupt, special_cycle};
@@ -23,20 +34,25 @@ pub extern "C" fn bios_hook_interrupt(
     handler: u32,
     parameter: u32,
 ) -> i32
-    ensures { hook_outcome (status_number result) hooks.new
-        ≡ hook_interrupt header.now records.now hooks.old
-        handle handler parameter }
+    ensures { left result hooks.new
+        ≡ hooks_left (hook_interrupt header.now records.now hooks.old
+        handle handler parameter) }
 {
-    hook_interrupt(header, records, hooks, handle, handler, parameter).number()
+    let hook = Hook {
+        handle: handle,
+        handler: handler,
+        parameter: parameter,
+    };
+    number_of(hook_interrupt(header, records, hooks, hook)).0
 }
 
 // Takes a function's hook from its chain.
 #[unsafe(no_mangle)]
 pub extern "C" fn bios_unhook_interrupt(header: &Header, hooks: &mut Hooks, handle: u32) -> i32
-    ensures { hook_outcome (status_number result) hooks.new
-        ≡ unhook_interrupt header.now hooks.old handle }
+    ensures { left result hooks.new
+        ≡ hooks_left (unhook_interrupt header.now hooks.old handle) }
 {
-    unhook_interrupt(header, hooks, handle).number()
+    number_of(unhook_interrupt(header, hooks, handle)).0
 }
 
 // The hook at an index of a line's chain, or a number; handle, handler and parameter go to the
@@ -67,13 +83,21 @@ pub extern "C" fn bios_get_card_used(
     mark: &mut u32,
     call_back: &mut u32,
 ) -> i32
-    ensures { card_used result mark.new call_back.new
-        ≡ get_card_used header.now used.now handle }
+    ensures { used_numbers result mark.new call_back.new
+        ≡ used_shown (get_card_used header.now used.now handle) }
 {
-    let u = get_card_used(header, used, handle);
-    *mark = u.used;
-    *call_back = u.call_back;
-    u.status.number()
+    match get_card_used(header, used, handle) {
+        Ok(found) => {
+            *mark = found.status;
+            *call_back = found.call_back;
+            Number::SUCCESSFUL.0
+        }
+        Err(refusal) => {
+            *mark = 0;
+            *call_back = 0;
+            refusal.number().0
+        }
+    }
 }
 
 // Sets them.
@@ -85,29 +109,29 @@ pub extern "C" fn bios_set_card_used(
     mark: u32,
     call_back: u32,
 ) -> i32
-    ensures { mark_outcome (status_number result) used.new
-        ≡ set_card_used header.now used.old handle mark call_back }
+    ensures { left result used.new
+        ≡ used_left (set_card_used header.now used.old handle mark call_back) }
 {
-    set_card_used(header, used, handle, mark, call_back).number()
+    number_of(set_card_used(header, used, handle, mark, call_back)).0
 }
 
 #[unsafe(no_mangle)]
 pub extern "C" fn bios_special_cycle(bus: u8, message: u32) -> i32
-    ensures { status_number result ≡ special_cycle bus message }
+    ensures { result ≡ number_of (special_cycle bus message) }
 {
-    special_cycle(bus, message).number()
+    number_of(special_cycle(bus, message)).0
 }
 
 #[unsafe(no_mangle)]
 pub extern "C" fn bios_get_routing(handle: u32) -> i32
-    ensures { status_number result ≡ get_routing handle }
+    ensures { result ≡ number_of (get_routing handle) }
 {
-    get_routing(handle).number()
+    number_of(get_routing(handle)).0
 }
 
 #[unsafe(no_mangle)]
 pub extern "C" fn bios_set_interrupt(handle: u32, mode: u32) -> i32
-    ensures { status_number result ≡ set_interrupt handle mode }
+    ensures { result ≡ number_of (set_interrupt handle mode) }
 {
-    set_interrupt(handle, mode).number()
+    number_of(set_interrupt(handle, mode)).0
 }

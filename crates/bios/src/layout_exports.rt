@@ -3,7 +3,7 @@ ghost use Rattle.std.specs.Prelude.{◌≡◌};
 ghost use Rattle.bios.specs.Layout.{part_bytes};
 
 use board::layout::{FUNCTIONS, HEADER, HOOK, MARK, RECORD, REGISTER_BYTES, WINDOWS};
-use numbers::number::u64_at;
+use numbers::number::item_or;
 
 // The bytes of a part, by the parts' order in every call that is lent them all; 0 past the last.
 #[unsafe(no_mangle)]
@@ -19,5 +19,5 @@ pub extern "C" fn bios_part_bytes(part: u32) -> u64
         (4 * (HOOK * FUNCTIONS)) as u64,
         (4 * (MARK * FUNCTIONS)) as u64,
     ];
-    u64_at(&parts, part as usize)
+    item_or(&parts, part as usize, 0)
 }

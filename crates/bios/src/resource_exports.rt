@@ -1,13 +1,14 @@
 // Descriptors for C: writing them, and a step through them.
 ghost use Rattle.std.specs.Prelude.{◌≡◌};
-ghost use Rattle.resource.specs.Resource.{resource_outcome, get_resource};
+ghost use Rattle.resource.specs.Resource.{get_resource};
 ghost use Rattle.resource_walk.specs.Walk.{step_at};
-ghost use Rattle.bios.specs.Exports.{status_number, fields_shown, step_shown, step_numbers};
+ghost use Rattle.bios.specs.Exports.{left, descriptors_left, fields_shown, step_shown, step_numbers};
 
 use board::layout::{Header, Records, Registers, Windows};
+use board::status::number_of;
 use resource::get_resource;
 use resource_descriptor::descriptor::Descriptor;
-use resource_walk::step::{Step, descriptor_step};
+use resource_walk::step::descriptor_step;
 
 // A descriptor as numbers: next, flags, start, length, offset, dmaoffset.
 pub type DescriptorFields = [u32; 6];
@@ -35,12 +36,12 @@ pub extern "C" fn bios_get_resource(
     handle: u32,
     out: &mut [u8],
 ) -> i32
-    ensures { resource_outcome (status_number result) out.new
-        ≡ get_resource
+    ensures { left result out.new
+        ≡ descriptors_left (get_resource
         header.now records.now registers.now windows.now
-        handle out.old }
+        handle out.old) }
 {
-    get_resource(header, records, registers, windows, handle, out).number()
+    number_of(get_resource(header, records, registers, windows, handle, out)).0
 }
 
 // The descriptor at a position, and the position after it: 1 where there is one, else 0 with zeros
@@ -56,15 +57,12 @@ pub extern "C" fn bios_descriptor_step(
         ≡ step_shown at (step_at bytes.now at) }
 {
     match descriptor_step(bytes, at) {
-        Step::Found {
-            descriptor,
-            following: next,
-        } => {
-            *fields = descriptor_fields(descriptor);
-            *following = next;
+        Some(step) => {
+            *fields = descriptor_fields(step.descriptor);
+            *following = step.following;
             1
         }
-        Step::Ended => {
+        None => {
             *fields = [0u32; 6];
             *following = at;
             0

@@ -4,6 +4,7 @@ ghost use Rattle.board.specs.Parts.{parts};
 ghost use Rattle.script.specs.Script.{ran, run_of};
 
 use board::layout::{CellOffsets, Header, Hooks, Records, Registers, Used, Windows};
+use board::parts::Board;
 use script::run::run;
 
 // Performs the calls of a script from the board before the first load. Gives the position of the
@@ -26,7 +27,15 @@ pub extern "C" fn bios_run_script(
         hooks.new used.new cells.new)
         ≡ run_of script.old cells.old }
 {
-    run(
-        script, header, records, registers, windows, offsets, hooks, used, cells,
-    )
+    let mut board = Board {
+        header: header,
+        records: records,
+        registers: registers,
+        windows: windows,
+        offsets: offsets,
+        hooks: hooks,
+        used: used,
+        cells: cells,
+    };
+    run(script, &mut board)
 }

@@ -1,16 +1,16 @@
 -- What reads hand back: document 01, "Numbers handed back".
-use Rattle.std.specs.Prelude.{ℕ, ◌-◌, ◌^◌, true, false}
-use Rattle.board.specs.Statuses.{successful}
-use Rattle.board.specs.declared.read.Read.{Read}
+use Rattle.std.specs.Prelude.{ℕ, ◌-◌, ◌^◌, true, false, Result, Ok, Err}
 use Rattle.board.specs.declared.read.FastRead.{FastRead}
-use Rattle.board.specs.declared.status.Status.{Status}
+use Rattle.board.specs.declared.status.CallRefusal.{CallRefusal}
 
--- an accepted read; a refused one returns 0
-abbrev pub accepted_read : ℕ → Read
-accepted_read v = record { status = successful; value = v }
+-- a read gives a number, or is refused
+abbrev pub Read : Type 0
+Read = Result ℕ CallRefusal
 
-abbrev pub refused_read : Status → Read
-refused_read s = record { status = s; value = 0 }
+-- the value that is handed back: a refused read returns 0
+abbrev pub value_of : Read → ℕ
+value_of (Ok v) = v
+value_of (Err r) = 0
 
 -- an accepted fast read; a refused one returns all ones of its width and a set fault flag
 abbrev pub accepted_fast : ℕ → FastRead
@@ -18,3 +18,8 @@ accepted_fast v = record { value = v; fault = false }
 
 abbrev pub refused_fast : ℕ → FastRead
 refused_fast w = record { value = 256 ^ w - 1; fault = true }
+
+-- what a fast read of so many bytes hands back of a read
+abbrev pub fast_of : ℕ → Read → FastRead
+fast_of w (Ok v) = accepted_fast v
+fast_of w (Err r) = refused_fast w

@@ -2,12 +2,11 @@
 -- (where the parts of a record stand), "Numbers handed back", "Registers" and "Windows" (where a
 -- function's registers stand), "Data and byte order" (the two kinds of address), and of the numbers
 -- that C asks with.
-use Rattle.std.specs.Prelude.{◌≡◌, ℕ, ◌+◌, ◌-◌, true, false, List, [], ◌∷◌, ◌++◌, map, pos, neg_ℤ}
+use Rattle.std.specs.Prelude.{◌≡◌, ℕ, ◌+◌, ◌-◌, true, false, List, [], ◌∷◌, ◌++◌, map, pos, neg_ℤ, Ok, Err, Some, None}
 use Rattle.numbers.specs.Tables.{table}
 use Rattle.numbers.specs.declared.number.Width.TheVariants.{Byte, Word, Long}
 use Rattle.board.specs.declared.space.Space.TheVariants.{Memory, Io}
-use Rattle.board.specs.declared.from_c.CWidth.TheVariants.{Known, Other}
-use Rattle.board.specs.declared.status.Status.{Status}
+use Rattle.board.specs.declared.status.CallRefusal.TheVariants.{BadHandle}
 use Rattle.board.specs.Addresses.{bus, cpu, bus_number, cpu_number, cpu_address, bus_address}
 use Rattle.board.specs.FromC.{width_from_c, space_from_c}
 use Rattle.board.specs.Handles.{header_of, function_count, is_handle, place_of_handle}
@@ -39,10 +38,10 @@ use Rattle.board.specs.Parts.{
   with_hooks,
   with_used,
 }
-use Rattle.board.specs.Reads.{accepted_read, refused_read, accepted_fast, refused_fast}
+use Rattle.board.specs.Reads.{value_of, accepted_fast, refused_fast, fast_of}
 use Rattle.board.specs.Spaces.{space_number}
 use Rattle.board.specs.Statuses.{
-  minus,
+  number_of,
   successful,
   func_not_supported,
   bad_vendor_id,
@@ -147,7 +146,7 @@ pub record BoardRows : Type 0 where
   pub dma_offsets : map (dma_offset two_records) (0 ∷ 1 ∷ []) ≡ 0x5C5D5E5F ∷ 0x9C9D9E9F ∷ []
   -- the numbers handed back, in document 01's order, with request E1's -3
   pub numbers :
-      map (λ (s : Status). s.0)
+      map number_of
       (successful
       ∷ func_not_supported
       ∷ bad_vendor_id
@@ -169,8 +168,8 @@ pub record BoardRows : Type 0 where
       ∷ neg_ℤ (pos 9)
       ∷ []
   -- a refused read returns 0; a refused fast read all ones of its width and a set fault flag
-  pub accepted_reads : accepted_read 7 ≡ record { status = record { 0 = pos 0 }; value = 7 }
-  pub refused_reads : refused_read (minus 9) ≡ record { status = minus 9; value = 0 }
+  pub reads : map value_of (Ok 7 ∷ Err BadHandle ∷ []) ≡ 7 ∷ 0 ∷ []
+  pub read_numbers : map (number_of {A = ℕ}) (Ok 7 ∷ Err BadHandle ∷ []) ≡ pos 0 ∷ neg_ℤ (pos 9) ∷ []
   pub accepted_fast_reads : accepted_fast 7 ≡ record { value = 7; fault = false }
   pub fast_fillers :
       map refused_fast (1 ∷ 2 ∷ 4 ∷ [])
@@ -178,6 +177,9 @@ pub record BoardRows : Type 0 where
       ∷ record { value = 0xFFFF; fault = true }
       ∷ record { value = 0xFFFFFFFF; fault = true }
       ∷ []
+  pub fast_reads :
+      map (fast_of 2) (Ok 7 ∷ Err BadHandle ∷ [])
+      ≡ record { value = 7; fault = false } ∷ record { value = 0xFFFF; fault = true } ∷ []
   -- 256 registers of each function; the command is 04h, base register b stands at 10h + 4 b, least
   -- byte first
   pub register_bytes :
@@ -206,5 +208,5 @@ pub record BoardRows : Type 0 where
   -- C's widths are 1, 2 and 4 alone; its space 0 is memory, every other number I/O
   pub widths_from_c :
       map width_from_c (0 ∷ 1 ∷ 2 ∷ 3 ∷ 4 ∷ 5 ∷ 8 ∷ [])
-      ≡ Other ∷ Known Byte ∷ Known Word ∷ Other ∷ Known Long ∷ Other ∷ Other ∷ []
+      ≡ None ∷ Some Byte ∷ Some Word ∷ None ∷ Some Long ∷ None ∷ None ∷ []
   pub spaces_from_c : map space_from_c (0 ∷ 1 ∷ 2 ∷ 256 ∷ []) ≡ Memory ∷ Io ∷ Io ∷ Io ∷ []

@@ -1,34 +1,59 @@
 -- The numbers handed back: document 01, "Numbers handed back"; -3 is request E1's.
-use Rattle.std.specs.Prelude.{ℕ, pos, neg_ℤ}
-use Rattle.board.specs.declared.status.Status.{Status}
+use Rattle.std.specs.Prelude.{ℤ, pos, neg_ℤ, Result, Ok, Err}
+use Rattle.board.specs.declared.status.CallRefusal.{CallRefusal}
+use Rattle.board.specs.declared.status.CallRefusal.TheVariants.{
+  FuncNotSupported,
+  BadVendorId,
+  DeviceNotFound,
+  BadRegisterNumber,
+  SetFailed,
+  BufferTooSmall,
+  GeneralError,
+  BadHandle,
+}
 
--- the answer of a number below 0
-abbrev pub minus : ℕ → Status
-minus n = record { 0 = neg_ℤ (pos n) }
+abbrev pub refusal_number : CallRefusal → ℤ
+refusal_number FuncNotSupported = neg_ℤ (pos 2)
+refusal_number BadVendorId = neg_ℤ (pos 3)
+refusal_number DeviceNotFound = neg_ℤ (pos 4)
+refusal_number BadRegisterNumber = neg_ℤ (pos 5)
+refusal_number SetFailed = neg_ℤ (pos 6)
+refusal_number BufferTooSmall = neg_ℤ (pos 7)
+refusal_number GeneralError = neg_ℤ (pos 8)
+refusal_number BadHandle = neg_ℤ (pos 9)
+
+-- 0 where a call is accepted, whatever else it hands back
+abbrev pub number_of : {A : Type 0} → Result A CallRefusal → ℤ
+number_of (Ok v) = pos 0
+number_of (Err r) = refusal_number r
+
+-- a call that hands back nothing else
+abbrev pub Status : Type 0
+Status = Result Unit CallRefusal
 
 abbrev pub successful : Status
-successful = record { 0 = pos 0 }
+successful = Ok tt
 
 abbrev pub func_not_supported : Status
-func_not_supported = minus 2
+func_not_supported = Err FuncNotSupported
 
 abbrev pub bad_vendor_id : Status
-bad_vendor_id = minus 3
+bad_vendor_id = Err BadVendorId
 
 abbrev pub device_not_found : Status
-device_not_found = minus 4
+device_not_found = Err DeviceNotFound
 
 abbrev pub bad_register_number : Status
-bad_register_number = minus 5
+bad_register_number = Err BadRegisterNumber
 
 abbrev pub set_failed : Status
-set_failed = minus 6
+set_failed = Err SetFailed
 
 abbrev pub buffer_too_small : Status
-buffer_too_small = minus 7
+buffer_too_small = Err BufferTooSmall
 
 abbrev pub general_error : Status
-general_error = minus 8
+general_error = Err GeneralError
 
 abbrev pub bad_handle : Status
-bad_handle = minus 9
+bad_handle = Err BadHandle

@@ -20,13 +20,6 @@ pub struct BusAddress(u32);
 #[derive(Clone, Copy)]
 pub struct CpuAddress(u32);
 
-// a - b, modulo 2^32.
-fn minus(a: u32, b: u32) -> u32
-    ensures { result ≡ (a + (2 ^ 32 - b)) % 2 ^ 32 }
-{
-    std::num::wrapping_sub_u32(a, b)
-}
-
 impl BusAddress {
     // The address of a number.
     pub fn of(number: u32) -> BusAddress
@@ -46,7 +39,7 @@ impl BusAddress {
     pub fn to_cpu(self, offset: u32) -> CpuAddress
         ensures { result ≡ cpu_address offset self }
     {
-        CpuAddress(std::num::wrapping_add_u32(self.0, offset))
+        CpuAddress(self.0.wrapping_add(offset))
     }
 }
 
@@ -69,6 +62,6 @@ impl CpuAddress {
     pub fn to_bus(self, offset: u32) -> BusAddress
         ensures { result ≡ bus_address offset self }
     {
-        BusAddress(minus(self.0, offset))
+        BusAddress(self.0.wrapping_sub(offset))
     }
 }

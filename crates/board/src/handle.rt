@@ -3,15 +3,12 @@ ghost use Rattle.std.specs.Prelude.{◌≡◌, ◌-◌};
 ghost use Rattle.board.specs.Handles.{function_count, is_handle, place_of_handle};
 
 use crate::layout::{FUNCTIONS, Header};
-use numbers::number::u32_at;
 
 // The functions there are: the kept count, above 16 read as 16.
 pub fn function_count(header: &Header) -> u32
     ensures { result ≡ function_count header.now }
 {
-    let most = FUNCTIONS as u32;
-    let count = u32_at(header, 0);
-    if count < most { count } else { most }
+    header[0].min(FUNCTIONS as u32)
 }
 
 // Whether a function has this handle.
@@ -26,7 +23,7 @@ pub fn is_handle(header: &Header, handle: u32) -> bool
 pub fn place(handle: u32) -> u32
     ensures { result ≡ handle - 1 }
 {
-    if handle == 0 { 0 } else { handle - 1 }
+    handle.saturating_sub(1)
 }
 
 // The same without a test, for data calls; of 0 the largest number. docs/DECISIONS.md says what the
@@ -34,5 +31,5 @@ pub fn place(handle: u32) -> u32
 pub fn place_of_handle(handle: u32) -> u32
     ensures { result ≡ place_of_handle handle }
 {
-    std::num::wrapping_sub_u32(handle, 1)
+    handle.wrapping_sub(1)
 }

@@ -1,6 +1,6 @@
 // The parts of a board that the caller lends: one name for each length and each position, and a
-// total reader for each kind of byte and number. They are arrays and no struct, so that a call
-// copies nothing and C can hand them over.
+// total reader for each kind of byte and number. They are arrays, so that a call copies
+// nothing and C can hand them over.
 ghost use Rattle.std.specs.Prelude.{◌≡◌};
 ghost use Rattle.board.specs.Layout.{
   record_byte,

@@ -6,6 +6,7 @@ pub mod address;
 pub mod from_c;
 pub mod handle;
 pub mod layout;
+pub mod parts;
 pub mod read;
 pub mod space;
 pub mod status;

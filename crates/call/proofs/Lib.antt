@@ -1,4 +1,3 @@
 -- The laws that proofs here cite, and the rows.
-pub mod Signed
 pub mod Found
 pub mod Rows

@@ -1,13 +1,18 @@
 -- Rows with literal numbers of document 01, "Numbers handed back": the answer of each kind of call;
 -- and which accesses write.
-use Rattle.std.specs.Prelude.{ℕ, Bool, true, false, List, [], ◌∷◌, map, ◌≡◌, ℤ, pos, neg_ℤ}
+use Rattle.std.specs.Prelude.{ℕ, Bool, true, false, List, [], ◌∷◌, map, ◌≡◌, ℤ, pos, neg_ℤ, Result, Ok, Err}
 use Rattle.board.specs.Addresses.{bus, cpu}
-use Rattle.board.specs.Statuses.{minus}
-use Rattle.board.specs.declared.status.Status.{Status}
+use Rattle.board.specs.Statuses.{successful, func_not_supported, bad_handle}
+use Rattle.board.specs.declared.status.CallRefusal.{CallRefusal}
+use Rattle.board.specs.declared.status.CallRefusal.TheVariants.{
+  BadRegisterNumber,
+  DeviceNotFound,
+  BadHandle,
+}
 use Rattle.window_listing.specs.Listing.{listing_number, listing_values}
-use Rattle.window_listing.specs.declared.listing.Listing.{Listing}
-use Rattle.window_listing.specs.declared.listing.Listing.TheVariants.{Found, Refused}
+use Rattle.window_listing.specs.declared.listing.Listed.{Listed}
 use Rattle.window_listing.specs.declared.listing.ListedWindow.TheVariants.{Memory, Io}
+use Rattle.image_refusals.specs.declared.verdict.ImageRefusal.TheVariants.{Length, Count, Record}
 use Rattle.call.specs.declared.answer.Answer.{Answer}
 use Rattle.call.specs.declared.call.Access.TheVariants.{Read, FastRead, Write}
 use Rattle.call.specs.Answers.{
@@ -32,27 +37,20 @@ said number refused values = record { number = number; refused = refused; values
 abbrev refusal : ℕ → Answer
 refusal n = said (neg_ℤ (pos n)) true (0 ∷ 0 ∷ 0 ∷ 0 ∷ 0 ∷ 0 ∷ [])
 
-abbrev accepted : Status
-accepted = record { 0 = pos 0 }
-
-abbrev listed : Listing → Answer
+abbrev listed : Result Listed CallRefusal → Answer
 listed l = answer (listing_number l) (listing_values l)
 
 pub record CallRows : Type 0 where
   -- 0 is no refusal, every other number is one
   pub statuses :
-      map of_status (accepted ∷ minus 2 ∷ minus 9 ∷ [])
+      map of_status (successful ∷ func_not_supported ∷ bad_handle ∷ [])
       ≡ said (pos 0) false (0 ∷ 0 ∷ 0 ∷ 0 ∷ 0 ∷ 0 ∷ []) ∷ refusal 2 ∷ refusal 9 ∷ []
   -- also the writer's, which are above 0
   pub writers :
-      map (λ n. (answer (pos n) []).refused) (0 ∷ 1 ∷ 3 ∷ []) ≡ false ∷ true ∷ true ∷ []
+      map (λ v. (of_verdict v).refused) (Ok tt ∷ Err Length ∷ Err Count ∷ []) ≡ false ∷ true ∷ true ∷ []
   -- a load's: the number, and the place of the first bad record
   pub loads :
-      map of_verdict
-      (record { number = pos 0; place = 0 }
-      ∷ record { number = pos 1; place = 0 }
-      ∷ record { number = pos 6; place = 15 }
-      ∷ [])
+      map of_verdict (Ok tt ∷ Err Length ∷ Err (Record 15) ∷ [])
       ≡ said (pos 0) false (0 ∷ 0 ∷ 0 ∷ 0 ∷ 0 ∷ 0 ∷ [])
       ∷ said (pos 1) true (0 ∷ 0 ∷ 0 ∷ 0 ∷ 0 ∷ 0 ∷ [])
       ∷ said (pos 6) true (15 ∷ 0 ∷ 0 ∷ 0 ∷ 0 ∷ 0 ∷ [])
@@ -69,9 +67,7 @@ pub record CallRows : Type 0 where
   -- a read's: the number and the value
   pub reads :
       map of_read
-      (record { status = accepted; value = 0x89ABCDEF }
-      ∷ record { status = minus 5; value = 0 }
-      ∷ [])
+      (Ok 0x89ABCDEF ∷ Err BadRegisterNumber ∷ [])
       ≡ said (pos 0) false (0x89ABCDEF ∷ 0 ∷ 0 ∷ 0 ∷ 0 ∷ 0 ∷ []) ∷ refusal 5 ∷ []
   -- a fast read's: the value and the fault flag, and no number
   pub fast_reads :
@@ -83,22 +79,28 @@ pub record CallRows : Type 0 where
   -- a conversion's: the number and the address
   pub to_cpu :
       map of_to_cpu
-      (record { status = accepted; address = cpu 0x80000004 }
-      ∷ record { status = minus 9; address = cpu 0 }
-      ∷ [])
+      (Ok (cpu 0x80000004) ∷ Err BadHandle ∷ [])
       ≡ said (pos 0) false (0x80000004 ∷ 0 ∷ 0 ∷ 0 ∷ 0 ∷ 0 ∷ []) ∷ refusal 9 ∷ []
   pub to_bus :
       map of_to_bus
-      (record { status = accepted; address = bus 0x80000004 }
-      ∷ record { status = minus 9; address = bus 0 }
-      ∷ [])
+      (Ok (bus 0x80000004) ∷ Err BadHandle ∷ [])
       ≡ said (pos 0) false (0x80000004 ∷ 0 ∷ 0 ∷ 0 ∷ 0 ∷ 0 ∷ []) ∷ refusal 9 ∷ []
   -- a listed window's: space (1 for I/O), start, length, handle, base register, contested mark
   pub windows :
       map listed
-      (Found (Memory (bus 0x80000400) 0x1000) 2 3 false
-      ∷ Found (Io (bus 0x100) 0x10) 4 5 true
-      ∷ Refused (minus 4)
+      (Ok (record {
+        window = Memory (bus 0x80000400) 0x1000;
+        handle = 2;
+        base = 3;
+        contested = false;
+      })
+      ∷ Ok (record {
+        window = Io (bus 0x100) 0x10;
+        handle = 4;
+        base = 5;
+        contested = true;
+      })
+      ∷ Err DeviceNotFound
       ∷ [])
       ≡ said (pos 0) false (0 ∷ 0x80000400 ∷ 0x1000 ∷ 2 ∷ 3 ∷ 0 ∷ [])
       ∷ said (pos 0) false (1 ∷ 0x100 ∷ 0x10 ∷ 4 ∷ 5 ∷ 1 ∷ [])
@@ -112,9 +114,7 @@ pub record CallRows : Type 0 where
   -- a used mark's: status and call-back address
   pub marks :
       map of_used
-      (record { status = accepted; used = 2; call_back = 0x3000 }
-      ∷ record { status = minus 9; used = 0; call_back = 0 }
-      ∷ [])
+      (Ok (record { status = 2; call_back = 0x3000 }) ∷ Err BadHandle ∷ [])
       ≡ said (pos 0) false (2 ∷ 0x3000 ∷ 0 ∷ 0 ∷ 0 ∷ 0 ∷ []) ∷ refusal 9 ∷ []
   -- reads and fast reads do not write
   pub writing : map writes (Read ∷ FastRead ∷ Write 0 ∷ []) ≡ false ∷ false ∷ true ∷ []

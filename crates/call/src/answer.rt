@@ -1,5 +1,7 @@
-// The answer of a call, and how it is made of what each function hands back.
-ghost use Rattle.std.specs.Prelude.{◌≡◌, cond, [], ◌∷◌, pos, replicate, ◌<◌};
+// The answer of a call, and how it is made of what each function gives: the number 0 and its
+// values, or the number of the refusal and zeros.
+ghost use Rattle.std.specs.Prelude.{◌≡◌, pos, ◌<◌};
+ghost use Rattle.board.specs.Statuses.{refusal_number};
 ghost use Rattle.window_listing.specs.Listing.{
   listing_number,
   listing_values,
@@ -25,14 +27,13 @@ ghost use Rattle.call.specs.Answers.{
 };
 ghost use Rattle.call.specs.Steps.{handle_found};
 
-use address_convert::convert::{ToBus, ToCpu};
-use board::read::{FastRead, Read};
-use board::status::Status;
-use card_used::used::CardUsed;
-use image_refusals::verdict::Verdict;
-use interrupt_list::listing::ChainListing;
-use search::Search;
-use window_listing::listing::{ListedWindow, Listing};
+use board::address::{BusAddress, CpuAddress};
+use board::read::{FastRead, Read, value_of};
+use board::status::{CallRefusal, Number, Status, number_of};
+use card_used::used::Mark;
+use image_refusals::verdict::{Verdict, verdict_number, verdict_place};
+use interrupt_array::hooks::Hook;
+use window_listing::listing::{Listed, ListedWindow};
 
 // The values of an answer; those that it does not have are 0.
 pub type Values = [u64; 6];
@@ -46,67 +47,76 @@ pub struct Answer {
     pub values: Values,
 }
 
-// The answer with the writer's number.
-pub fn of_number(number: u8) -> Answer
-    ensures { result ≡ answer (pos number) zeros }
+// The answer with a number and values.
+fn with_values(number: i32, values: Values) -> Answer
+    ensures { result ≡ answer number values }
 {
     Answer {
-        number: number as i32,
+        number: number,
         refused: number != 0,
-        values: [0u64; 6],
-    }
-}
-
-// The answer with a status and values.
-fn with_values(status: Status, values: Values) -> Answer
-    ensures { result ≡ answer status.0 values }
-{
-    Answer {
-        number: status.0,
-        refused: status.0 != 0,
         values: values,
     }
 }
 
 // With one value.
-fn of_value(status: Status, value: u32) -> Answer
-    ensures { result ≡ answer status.0 (one value) }
+fn with_value(number: i32, value: u32) -> Answer
+    ensures { result ≡ answer number (one value) }
 {
-    with_values(status, [value as u64, 0, 0, 0, 0, 0])
+    with_values(number, [u64::from(value), 0, 0, 0, 0, 0])
 }
 
-// The answer with a status and no values.
+// An accepted call's.
+fn accepted(values: Values) -> Answer
+    ensures { result ≡ answer (pos 0) values }
+{
+    with_values(Number::SUCCESSFUL.0, values)
+}
+
+// A refused call's.
+fn refused(refusal: CallRefusal) -> Answer
+    ensures { result ≡ answer (refusal_number refusal) zeros }
+{
+    with_values(refusal.number().0, [0u64; 6])
+}
+
+// The answer of a call that gives no values.
 pub fn of_status(status: Status) -> Answer
     ensures { result ≡ of_status status }
 {
-    of_value(status, 0)
+    with_value(number_of(status).0, 0)
 }
 
-// The answer of a load: its number, and the place that it returns.
+// The answer of a load or of the writer: its number, and the place that a load returns.
 pub fn of_verdict(verdict: Verdict) -> Answer
     ensures { result ≡ of_verdict verdict }
 {
-    of_value(Status(verdict.number), verdict.place)
+    with_value(verdict_number(verdict), verdict_place(verdict))
 }
 
 // The answer of a read.
 pub fn of_read(read: Read) -> Answer
     ensures { result ≡ of_read read }
 {
-    of_value(read.status, read.value)
+    with_value(number_of(read).0, value_of(read))
 }
 
 // The answers of the conversions.
-pub fn of_to_cpu(to: ToCpu) -> Answer
+pub fn of_to_cpu(to: Result<CpuAddress, CallRefusal>) -> Answer
     ensures { result ≡ of_to_cpu to }
 {
-    of_value(to.status, to.address.number())
+    match to {
+        Ok(address) => with_value(Number::SUCCESSFUL.0, address.number()),
+        Err(refusal) => refused(refusal),
+    }
 }
 
-pub fn of_to_bus(to: ToBus) -> Answer
+pub fn of_to_bus(to: Result<BusAddress, CallRefusal>) -> Answer
     ensures { result ≡ of_to_bus to }
 {
-    of_value(to.status, to.address.number())
+    match to {
+        Ok(address) => with_value(Number::SUCCESSFUL.0, address.number()),
+        Err(refusal) => refused(refusal),
+    }
 }
 
 // The answer of a fast read, which has no number.
@@ -116,113 +126,90 @@ pub fn of_fast_read(read: FastRead) -> Answer
     Answer {
         number: 0,
         refused: read.fault,
-        values: [read.value as u64, 0, 0, 0, 0, 0],
+        values: [u64::from(read.value), 0, 0, 0, 0, 0],
     }
 }
 
 // The answer of a search: the number is the handle. Handles are small, so that it fits.
-pub(crate) fn of_search(search: Search) -> Answer
+pub(crate) fn of_search(search: Result<u32, CallRefusal>) -> Answer
     requires { handle_found search < 256 }
     ensures { result ≡ of_search (found_number search) }
 {
     match search {
-        Search::Found(handle) => Answer {
+        Ok(handle) => Answer {
             number: handle as i32,
             refused: false,
             values: [0u64; 6],
         },
-        Search::Refused(status) => Answer {
-            number: status.0,
-            refused: status.0 < 0,
-            values: [0u64; 6],
-        },
+        Err(refusal) => refused(refusal),
     }
 }
 
-// A window's values in their order; a mark is 1 where it is set.
-fn values(space: u64, start: u32, length: u32, handle: u32, base: u32, contested: bool) -> Values
-    ensures { result ≡ space ∷ start ∷ length ∷ handle ∷ base ∷ cond contested 1 0 ∷ [] }
-{
-    [
-        space,
-        start as u64,
-        length as u64,
-        handle as u64,
-        base as u64,
-        contested as u64,
-    ]
-}
-
-// The values of a window.
-fn values_of(window: ListedWindow, handle: u32, base: u32, contested: bool) -> Values
-    ensures { result ≡ listed_space window ∷ listed_start window ∷ listed_length window
-        ∷ handle ∷ base ∷ cond contested 1 0 ∷ [] }
+// The space, the start and the length of a listed window.
+fn values_of(window: ListedWindow) -> (u64, u64, u64)
+    ensures space { result.0 ≡ listed_space window }
+    ensures start { result.1 ≡ listed_start window }
+    ensures length { result.2 ≡ listed_length window }
 {
     match window {
-        ListedWindow::Memory { start, length } => values(
-            0,
-            start.number(),
-            length,
-            handle,
-            base,
-            contested,
-        ),
-        ListedWindow::Io { start, length } => values(
-            1,
-            start.number(),
-            length,
-            handle,
-            base,
-            contested,
-        ),
+        ListedWindow::Memory { start, length } => {
+            (0, u64::from(start.number()), u64::from(length))
+        }
+        ListedWindow::Io { start, length } => (1, u64::from(start.number()), u64::from(length)),
     }
 }
 
-// The answer of a listing.
-pub fn of_listing(listing: Listing) -> Answer
+// The answer of a window listing: space, start, length, handle, base register, and 1 where the
+// window is contested.
+pub fn of_listing(listing: Result<Listed, CallRefusal>) -> Answer
     ensures { result ≡ answer (listing_number listing) (listing_values listing) }
 {
     match listing {
-        Listing::Found {
-            window,
-            handle,
-            base,
-            contested,
-        } => with_values(
-            Status::SUCCESSFUL,
-            values_of(window, handle, base, contested),
-        ),
-        Listing::Refused(status) => of_status(status),
+        Ok(listed) => {
+            let (space, start, length) = values_of(listed.window);
+            accepted([
+                space,
+                start,
+                length,
+                u64::from(listed.handle),
+                u64::from(listed.base),
+                u64::from(listed.contested),
+            ])
+        }
+        Err(refusal) => refused(refusal),
     }
 }
 
-// The values of a hook.
-fn hook_values(handle: u32, handler: u32, parameter: u32) -> Values
-    ensures { result ≡ handle ∷ handler ∷ parameter ∷ replicate 3 0 }
-{
-    [handle as u64, handler as u64, parameter as u64, 0, 0, 0]
-}
-
 // The answer of a chain listing.
-pub fn of_chain(listing: ChainListing) -> Answer
+pub fn of_chain(listing: Result<Hook, CallRefusal>) -> Answer
     ensures { result ≡ of_chain (chain_number_of listing) (chain_values_of listing) }
 {
     match listing {
-        ChainListing::Found {
-            handle,
-            handler,
-            parameter,
-        } => with_values(Status::SUCCESSFUL, hook_values(handle, handler, parameter)),
-        ChainListing::Refused(status) => of_status(status),
+        Ok(hook) => accepted([
+            u64::from(hook.handle),
+            u64::from(hook.handler),
+            u64::from(hook.parameter),
+            0,
+            0,
+            0,
+        ]),
+        Err(refusal) => refused(refusal),
     }
 }
 
 // The answer with a used mark: its status and call-back address.
-pub fn of_used(used: CardUsed) -> Answer
-    ensures { result ≡ of_used used }
+pub fn of_used(mark: Result<Mark, CallRefusal>) -> Answer
+    ensures { result ≡ of_used mark }
 {
-    with_values(
-        used.status,
-        [used.used as u64, used.call_back as u64, 0, 0, 0, 0],
-    )
+    match mark {
+        Ok(mark) => accepted([
+            u64::from(mark.status),
+            u64::from(mark.call_back),
+            0,
+            0,
+            0,
+            0,
+        ]),
+        Err(refusal) => refused(refusal),
+    }
 }

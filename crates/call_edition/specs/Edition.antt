@@ -1,11 +1,9 @@
 -- What a caller names in a call edition: request E1. Edition 1 is draft 1.9 (document 000), 2 the
 -- later text (document 001). Each definition turns what is named into what the later text has.
-use Rattle.std.specs.Prelude.{ℕ, ◌+◌, ◌*◌, ◌/◌, ◌%◌, ◌^◌, Bool, cond, ◌&&◌, ◌||◌, eqb}
+use Rattle.std.specs.Prelude.{ℕ, ◌+◌, ◌*◌, ◌/◌, ◌%◌, ◌^◌, Bool, cond, ◌&&◌, ◌||◌, eqb, Option, Some, None}
 use Rattle.board.specs.Addresses.{bus, cpu, bus_address}
 use Rattle.board.specs.declared.address.BusAddress.{BusAddress}
 use Rattle.call_edition.specs.declared.edition.InEdition.{InEdition}
-use Rattle.call_edition.specs.declared.edition.NamedBus.{NamedBus}
-use Rattle.call_edition.specs.declared.edition.NamedBus.TheVariants.{At, UnknownEdition}
 
 -- a number in an edition
 abbrev pub in_edition : ℕ → ℕ → InEdition
@@ -44,5 +42,5 @@ bus_of offset address =
     cond (is_draft address) (bus_address offset (cpu address.number)) (bus address.number)
 
 -- what a data call names: that, where its edition is known
-unfoldable pub named_bus : ℕ → InEdition → NamedBus
-named_bus offset address = cond (is_known address) (At (bus_of offset address)) UnknownEdition
+unfoldable pub named_bus : ℕ → InEdition → Option BusAddress
+named_bus offset address = cond (is_known address) (Some (bus_of offset address)) None

@@ -1,6 +1,6 @@
 -- Rows with literal numbers of request E1 and document 000: which editions are known, what is
 -- searched for, and which bus address is named, in each edition.
-use Rattle.std.specs.Prelude.{true, false, [], ◌∷◌, map, ◌≡◌}
+use Rattle.std.specs.Prelude.{true, false, [], ◌∷◌, map, Some, None, ◌≡◌}
 use Rattle.board.specs.Addresses.{bus}
 use Rattle.call_edition.specs.Edition.{
   in_edition,
@@ -13,7 +13,6 @@ use Rattle.call_edition.specs.Edition.{
   bus_of,
   named_bus,
 }
-use Rattle.call_edition.specs.declared.edition.NamedBus.TheVariants.{At, UnknownEdition}
 
 pub record CallEditionRows : Type 0 where
   -- 1 is draft 1.9, 2 the later text, any other number is refused; 102h is not 2
@@ -59,4 +58,4 @@ pub record CallEditionRows : Type 0 where
   -- a data call names none in an edition that is not known
   pub named_addresses :
       map (λ e. named_bus 0x400 (in_edition 0x400 e)) (0 ∷ 1 ∷ 2 ∷ 3 ∷ 0x102 ∷ [])
-      ≡ UnknownEdition ∷ At (bus 0x0) ∷ At (bus 0x400) ∷ UnknownEdition ∷ UnknownEdition ∷ []
+      ≡ None ∷ Some (bus 0x0) ∷ Some (bus 0x400) ∷ None ∷ None ∷ []

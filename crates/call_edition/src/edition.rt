@@ -23,14 +23,6 @@ pub struct InEdition {
     pub edition: u32,
 }
 
-// What a data call names: an address on the bus, where its edition is known.
-#[derive(Clone, Copy)]
-pub enum NamedBus {
-    At(BusAddress),
-    // -2.
-    UnknownEdition,
-}
-
 // The editions that are known.
 const DRAFT_1_9: u32 = 1;
 
@@ -86,19 +78,19 @@ pub fn class_of(class: InEdition) -> u32
     class.number % 0x1000000
 }
 
-// The bus address that a caller names to a handle: in draft 1.9 by the CPU address, which is above
-// it by the function's offset. The later text is tested first: its data calls are to take no longer
-// than they did before there were editions.
+// The bus address that a caller names to a handle, none in an edition that is not known: in draft
+// 1.9 by the CPU address, which is above it by the function's offset. The later text is tested
+// first, so that its data calls take no longer for the other's sake.
 #[tactic(auto, unfolding(crate::specs::Edition::named_bus))]
-pub fn bus_of(records: &Records, handle: u32, address: InEdition) -> NamedBus
+pub fn bus_of(records: &Records, handle: u32, address: InEdition) -> Option<BusAddress>
     ensures { result ≡ named_bus (offset records.now (handle - 1)) address }
 {
     if address.edition == LATER_TEXT {
-        return NamedBus::At(BusAddress::of(address.number));
+        return Some(BusAddress::of(address.number));
     }
     if address.edition != DRAFT_1_9 {
-        return NamedBus::UnknownEdition;
+        return None;
     }
     let cpu = CpuAddress::of(address.number);
-    NamedBus::At(cpu.to_bus(offset(records, place(handle))))
+    Some(cpu.to_bus(offset(records, place(handle))))
 }

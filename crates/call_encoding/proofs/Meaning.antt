@@ -8,11 +8,11 @@ use lib.ListN.{replicate}
 use Rattle.numbers.specs.Numbers.{big_bytes}
 use Rattle.numbers.specs.Tables.{table_from}
 use Rattle.numbers.proofs.Numbers.{big_bytes_lem}
-use Rattle.call_encoding.specs.declared.decode.Decoded.TheVariants.{Known, Malformed}
+use Rattle.std.specs.Prelude.{None}
 use Rattle.call_encoding.specs.declared.fields.Fields.{Fields}
-use Rattle.call_encoding.specs.Format.{fields_of, candidate, call_header, encoded, header_fields_at, own_length, same_bytes, decoded}
+use Rattle.call_encoding.specs.Format.{fields_of, candidate, call_header, encoded, header_fields_at, own_length, same_bytes, known, decoded}
 use Rattle.call_encoding.specs.Meaning.{U32, Fits, EncodeDecode, DecodeEncode}
-use Rattle.call_encoding.proofs.Bytes.{same_refl, same_equal}
+use Rattle.call_encoding.proofs.Bytes.{same_refl, same_equal, same_known}
 use Rattle.call_encoding.proofs.Calls.{picked}
 
 whole : (v : ℕ) → U32 v → v % 256 ^ 4 ≡ v
@@ -51,9 +51,8 @@ unfolding decoded
 decode_encode l c own = by (same_bytes (encoded (candidate (header_fields_at l)) (own_length l)) l) refl
   where
     by : (b : Bool) → same_bytes (encoded (candidate (header_fields_at l)) (own_length l)) l ≡ b
-        → cond b (Known (candidate (header_fields_at l)) (own_length l)) Malformed ≡ Known c own → l ≡ encoded c own
+        → cond b (known (candidate (header_fields_at l)) (own_length l)) None ≡ known c own → l ≡ encoded c own
     by true s e =
-        let k : candidate (header_fields_at l) ≡ c = cc in
-        let n : own_length l ≡ own = cc in
-        rw (k, n) at (sym (same_equal (encoded (candidate (header_fields_at l)) (own_length l)) l s))
+        let said = same_known e in
+        rw (said.0, said.1) at (sym (same_equal (encoded (candidate (header_fields_at l)) (own_length l)) l s))
     by false s e = let z : ◌≡◌ {A = ℕ} 0 1 = cc in absurd (omega arith)

@@ -2,7 +2,7 @@
 -- A header is decoded by encoding: its fields leave one call that it can be (`candidate`), and it
 -- is that call's exactly if it is the call's encoding, byte for byte. So no rule for each call says
 -- which of its fields are 0, and no two headers say the same call with the same own length.
-use Rattle.std.specs.Prelude.{ℕ, ◌-◌, Bool, true, false, cond, ◌&&◌, List, [], ◌∷◌, ◌++◌, eqb, get_or, replicate}
+use Rattle.std.specs.Prelude.{ℕ, ◌-◌, Bool, true, false, cond, ◌&&◌, List, [], ◌∷◌, ◌++◌, Option, None, Some, eqb, get_or, replicate}
 use Rattle.numbers.specs.Numbers.{byte_at, bytes, big, big_bytes, bits}
 use Rattle.board.specs.Addresses.{bus, cpu}
 use Rattle.call_edition.specs.Edition.{in_edition}
@@ -41,7 +41,6 @@ use Rattle.call.specs.declared.call.Query.TheVariants.{
 }
 use Rattle.call_encoding.specs.declared.fields.Fields.{Fields}
 use Rattle.call_encoding.specs.declared.decode.Decoded.{Decoded}
-use Rattle.call_encoding.specs.declared.decode.Decoded.TheVariants.{Known, Malformed}
 
 abbrev pub fields : ℕ → ℕ → ℕ → ℕ → ℕ → ℕ → ℕ → Fields
 fields operation width space register handle a b =
@@ -188,11 +187,15 @@ same_bytes [] (y ∷ m) = false
 same_bytes (x ∷ l) [] = false
 same_bytes (x ∷ l) (y ∷ m) = eqb x y && same_bytes l m
 
+-- a header that says a call and the length of its own buffer
+abbrev pub known : Call → ℕ → Option Decoded
+known c own = Some (record { call = c; own = own })
+
 -- a header is a call's if it is the encoding of the only call that it can be, byte for byte
-unfoldable pub decoded : List ℕ → Decoded
+unfoldable pub decoded : List ℕ → Option Decoded
 decoded l =
     let c = candidate (header_fields_at l) in
-    cond (same_bytes (encoded c (own_length l)) l) (Known c (own_length l)) Malformed
+    cond (same_bytes (encoded c (own_length l)) l) (known c (own_length l)) None
 
 -- the low 8 bytes of a value
 abbrev pub value_bytes : Answer → ℕ → List ℕ

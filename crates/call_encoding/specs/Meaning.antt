@@ -1,9 +1,8 @@
 -- What the format means, without the proofs: docs/SCRIPT.md, "What is proved".
 use Rattle.std.specs.Prelude.{ℕ, ◌<◌, ◌^◌, List, ◌≡◌}
 use Rattle.call.specs.declared.call.Call.{Call}
-use Rattle.call_encoding.specs.declared.decode.Decoded.TheVariants.{Known}
 use Rattle.call_encoding.specs.declared.fields.Fields.{Fields}
-use Rattle.call_encoding.specs.Format.{fields_of, encoded, decoded}
+use Rattle.call_encoding.specs.Format.{fields_of, encoded, known, decoded}
 
 abbrev pub U32 : ℕ → Type 0
 U32 n = n < 2 ^ 32
@@ -22,9 +21,9 @@ TypesHold c = Fits (fields_of c)
 -- ENCODE THEN DECODE is the identity, for every call that the types can hold and every length of
 -- its own buffer
 abbrev pub EncodeDecode : Type 0
-EncodeDecode = (c : Call) (own : ℕ) → TypesHold c → U32 own → decoded (encoded c own) ≡ Known c own
+EncodeDecode = (c : Call) (own : ℕ) → TypesHold c → U32 own → decoded (encoded c own) ≡ known c own
 
 -- DECODE THEN ENCODE is the identity: bytes that are read as a call are that call's header, so no
 -- two headers say the same
 abbrev pub DecodeEncode : Type 0
-DecodeEncode = (l : List ℕ) (c : Call) (own : ℕ) → decoded l ≡ Known c own → l ≡ encoded c own
+DecodeEncode = (l : List ℕ) (c : Call) (own : ℕ) → decoded l ≡ known c own → l ≡ encoded c own

@@ -1,6 +1,6 @@
 -- Rows with literal numbers of docs/SCRIPT.md: the headers of the 23 calls, what is malformed, and
 -- the bytes of answers.
-use Rattle.std.specs.Prelude.{ℕ, Bool, true, false, List, [], ◌∷◌, ◌++◌, map, ◌≡◌, pos, neg_ℤ, set, replicate, take, drop}
+use Rattle.std.specs.Prelude.{ℕ, Bool, true, false, Option, None, Some, List, [], ◌∷◌, ◌++◌, map, ◌≡◌, pos, neg_ℤ, set, replicate, take, drop}
 use Rattle.board.specs.Addresses.{bus, cpu}
 use Rattle.call_edition.specs.Edition.{in_edition, in_later}
 use Rattle.board.specs.declared.space.Space.TheVariants.{Memory, Io}
@@ -32,8 +32,7 @@ use Rattle.call.specs.declared.call.Query.TheVariants.{
   SetInterrupt,
 }
 use Rattle.call_encoding.specs.declared.decode.Decoded.{Decoded}
-use Rattle.call_encoding.specs.declared.decode.Decoded.TheVariants.{Known, Malformed}
-use Rattle.call_encoding.specs.Format.{encoded, decoded, answer_bytes}
+use Rattle.call_encoding.specs.Format.{encoded, known, decoded, answer_bytes}
 
 -- the calls by operation, no two arguments alike; in the later text
 abbrev calls : List Call
@@ -116,9 +115,9 @@ named_in edition =
     ∷ Data Memory Byte 1 (in_edition 5 edition) (Write 6)
     ∷ []
 
-abbrev is_call : Decoded → Bool
-is_call (Known call own) = true
-is_call Malformed = false
+abbrev is_call : Option Decoded → Bool
+is_call (Some d) = true
+is_call None = false
 
 pub record CallEncodingRows : Type 0 where
   -- bytes 0..15 of every call
@@ -131,9 +130,9 @@ pub record CallEncodingRows : Type 0 where
   -- and read back
   pub read_write :
       decoded data_write
-      ≡ Known (Data Io Long 0x01020304 (in_later 0x05060708) (Write 0x090A0B0C)) 0x0E0F1011
+      ≡ known (Data Io Long 0x01020304 (in_later 0x05060708) (Write 0x090A0B0C)) 0x0E0F1011
   pub read_search :
-      decoded device_search ≡ Known (Ask (FindPciDevice (in_later 0x05060708) 0x090A0B0C)) 0
+      decoded device_search ≡ known (Ask (FindPciDevice (in_later 0x05060708) 0x090A0B0C)) 0
   -- malformed: another operation
   pub operations :
       map (λ n. is_call (decoded (n ∷ replicate 63 0))) (0 ∷ 1 ∷ 23 ∷ 24 ∷ 255 ∷ [])
@@ -164,7 +163,7 @@ pub record CallEncodingRows : Type 0 where
       ∷ []
   pub read_editions :
       map (λ n. decoded (set device_search 19 n)) (0 ∷ 1 ∷ 2 ∷ 3 ∷ [])
-      ≡ map (λ e. Known (Ask (FindPciDevice (in_edition 0x05060708 e) 0x090A0B0C)) 0)
+      ≡ map (λ e. known (Ask (FindPciDevice (in_edition 0x05060708 e) 0x090A0B0C)) 0)
       (2 ∷ 1 ∷ 0 ∷ 3 ∷ [])
   -- and of no other call
   pub no_edition :

@@ -11,18 +11,16 @@ use numbers::number::{Width, bits, put_big};
 pub fn answer_bytes(answer: Answer, own: u32) -> CallHeader
     ensures { result ≡ answer_bytes answer own }
 {
-    let number = answer.number;
-    let refused = answer.refused;
-    let values = answer.values;
+    let [a, b, c, d, e, f] = answer.values;
     let mut out = [0u8; CALL_HEADER];
-    put_big(&mut out, 0, Width::Long, bits(number));
-    out[4] = refused as u8;
-    put_value(&mut out, 8, values[0]);
-    put_value(&mut out, 16, values[1]);
-    put_value(&mut out, 24, values[2]);
-    put_value(&mut out, 32, values[3]);
-    put_value(&mut out, 40, values[4]);
-    put_value(&mut out, 48, values[5]);
+    put_big(&mut out, 0, Width::Long, bits(answer.number));
+    out[4] = u8::from(answer.refused);
+    put_value(&mut out, 8, a);
+    put_value(&mut out, 16, b);
+    put_value(&mut out, 24, c);
+    put_value(&mut out, 32, d);
+    put_value(&mut out, 40, e);
+    put_value(&mut out, 48, f);
     put_big(&mut out, OWN_LENGTH, Width::Long, own);
     out
 }

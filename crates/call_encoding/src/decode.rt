@@ -3,17 +3,16 @@
 ghost use Rattle.std.specs.Prelude.{◌≡◌};
 ghost use Rattle.call_encoding.specs.Format.{header_fields_at, decoded};
 
-use crate::encode::{OWN_LENGTH, call_header};
+use crate::encode::{A, B, C, HANDLE, OWN_LENGTH, call_header};
 use crate::fields::{Fields, call_of, fields_of};
 use call::Call;
-use check::same;
 use numbers::number::{Width, big_at, byte_at};
 
-// A call and the length of its own buffer; or bytes that are no call's header.
+// What a header says: a call, and the length of its own buffer.
 #[derive(Clone, Copy)]
-pub enum Decoded {
-    Known { call: Call, own: u32 },
-    Malformed,
+pub struct Decoded {
+    pub call: Call,
+    pub own: u32,
 }
 
 // The bytes at the positions of the fields.
@@ -25,27 +24,27 @@ fn header_fields_at(header: &[u8]) -> Fields
         width: byte_at(header, 1),
         space: byte_at(header, 2),
         register: byte_at(header, 3),
-        handle: big_at(header, 4, Width::Long),
-        a: big_at(header, 8, Width::Long),
-        b: big_at(header, 12, Width::Long),
-        c: big_at(header, 16, Width::Long),
+        handle: big_at(header, HANDLE, Width::Long),
+        a: big_at(header, A, Width::Long),
+        b: big_at(header, B, Width::Long),
+        c: big_at(header, C, Width::Long),
     }
 }
 
 // The only call that the fields can mean, if its header is these bytes and no others.
-pub fn decode(header: &[u8]) -> Decoded
+#[tactic(auto, using(crate::proofs::Bytes::decoded_known, crate::proofs::Bytes::decoded_not))]
+pub fn decode(header: &[u8]) -> Option<Decoded>
     ensures { result ≡ decoded header.now }
 {
-    let found = header_fields_at(header);
+    let call = call_of(header_fields_at(header));
     let own = big_at(header, OWN_LENGTH, Width::Long);
-    let call = call_of(found);
-    let said = fields_of(call);
-    let again = call_header(said, own);
-    if same(&again, header) {
-        return Decoded::Known {
+    let again = call_header(fields_of(call), own);
+    if again.as_slice() == header {
+        Some(Decoded {
             call: call,
             own: own,
-        };
+        })
+    } else {
+        None
     }
-    Decoded::Malformed
 }

@@ -13,7 +13,17 @@ pub const OWN_LENGTH: usize = 60;
 
 pub type CallHeader = [u8; CALL_HEADER];
 
+// Where the fields of four bytes stand; those of one byte are the first four.
+pub(crate) const HANDLE: usize = 4;
+
+pub(crate) const A: usize = 8;
+
+pub(crate) const B: usize = 12;
+
+pub(crate) const C: usize = 16;
+
 // The header with these fields: zeros everywhere else.
+#[tactic(auto, using(crate::proofs::Bytes::header_put))]
 pub(crate) fn call_header(f: Fields, own: u32) -> CallHeader
     ensures { result ≡ call_header f own }
 {
@@ -22,10 +32,10 @@ pub(crate) fn call_header(f: Fields, own: u32) -> CallHeader
     out[1] = f.width;
     out[2] = f.space;
     out[3] = f.register;
-    put_big(&mut out, 4, Width::Long, f.handle);
-    put_big(&mut out, 8, Width::Long, f.a);
-    put_big(&mut out, 12, Width::Long, f.b);
-    put_big(&mut out, 16, Width::Long, f.c);
+    put_big(&mut out, HANDLE, Width::Long, f.handle);
+    put_big(&mut out, A, Width::Long, f.a);
+    put_big(&mut out, B, Width::Long, f.b);
+    put_big(&mut out, C, Width::Long, f.c);
     put_big(&mut out, OWN_LENGTH, Width::Long, own);
     out
 }

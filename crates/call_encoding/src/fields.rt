@@ -1,7 +1,6 @@
 // The fields of a call's header, and back: a row for each call, in the order of the operations'
 // numbers.
 ghost use Rattle.std.specs.Prelude.{◌≡◌};
-ghost use Rattle.board.specs.Spaces.{space_number};
 ghost use Rattle.call.specs.declared.call.Call.TheVariants.{Ask};
 ghost use Rattle.call_encoding.specs.Format.{
   exchanged,
@@ -14,6 +13,7 @@ ghost use Rattle.call_encoding.specs.Format.{
 };
 
 use board::address::{BusAddress, CpuAddress};
+use board::from_c::width_from_c;
 use board::space::Space;
 use call::{Access, Call, Query};
 use call_edition::edition::{InEdition, in_edition};
@@ -62,18 +62,9 @@ fn edition_exchanged(edition: u32) -> u32
 fn with_edition(named: InEdition, f: Fields) -> Fields
     ensures { result ≡ with_edition named f }
 {
-    let mut out = f;
-    out.c = edition_exchanged(named.edition);
-    out
-}
-
-// The byte of a space.
-fn space_number(space: Space) -> u8
-    ensures { result ≡ space_number space }
-{
-    match space {
-        Space::Memory => 0,
-        Space::Io => 1,
+    Fields {
+        c: edition_exchanged(named.edition),
+        ..f
     }
 }
 
@@ -128,7 +119,7 @@ pub fn fields_of(call: Call) -> Fields
             access,
         } => {
             let w = bytes(width);
-            let s = space_number(space);
+            let s = space.number();
             let a = address.number;
             match access {
                 Access::Read => with_edition(address, row(9, w, s, 0, handle, a, 0)),
@@ -158,27 +149,21 @@ pub fn fields_of(call: Call) -> Fields
 fn width_of_byte(n: u8) -> Width
     ensures { result ≡ width_of_byte n }
 {
-    if n == 2 {
-        return Width::Word;
-    }
-    if n == 4 {
-        return Width::Long;
-    }
-    Width::Byte
+    width_from_c(u32::from(n)).unwrap_or(Width::Byte)
 }
 
 // The space of a byte; a byte that is no space is read as 0.
 fn space_of_byte(n: u8) -> Space
     ensures { result ≡ space_of_byte n }
 {
-    if n == 1 {
-        return Space::Io;
+    match n {
+        1 => Space::Io,
+        _ => Space::Memory,
     }
-    Space::Memory
 }
 
 // The only call that can have these fields, which may still be those of no call.
-#[tactic(auto, unfolding(crate::specs::Format::candidate))]
+#[tactic(auto, unfolding(crate::specs::Format::candidate), using(crate::proofs::Calls::unknown))]
 pub fn call_of(f: Fields) -> Call
     ensures { result ≡ candidate f }
 {

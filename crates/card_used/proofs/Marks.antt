@@ -11,7 +11,8 @@ use lib.Seq.{get_or-set_same, get_or-set_other, ext_get_or}
 use borrow.Author.Tests.{eqb-true, eqb-false}
 use Rattle.board.specs.Layout.{functions_max}
 use Rattle.numbers.proofs.Tables.{table_length, table_get}
-use Rattle.card_used.specs.Used.{Mark, mark_at, mark_put, mark_number, marks_of}
+use Rattle.card_used.specs.declared.used.Mark.{Mark}
+use Rattle.card_used.specs.Used.{mark_at, mark_put, mark_number, marks_of}
 use Rattle.card_used.specs.Meaning.{OneMark}
 
 module _ (used : List ℕ) (i : ℕ) (m : Mark) where

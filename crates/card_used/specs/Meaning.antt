@@ -1,7 +1,8 @@
 -- What the used marks mean, without the proofs: document 01, "Runs and the book", set used.
 use Rattle.std.specs.Prelude.{ℕ, ◌+◌, ◌*◌, ◌<◌, cond, List, ◌≡◌, eqb, length}
 use Rattle.board.specs.Layout.{mark_size}
-use Rattle.card_used.specs.Used.{Mark, mark_at, mark_put}
+use Rattle.card_used.specs.declared.used.Mark.{Mark}
+use Rattle.card_used.specs.Used.{mark_at, mark_put}
 
 -- a mark that is set is its function's, and every other function keeps its own
 abbrev pub OneMark : Type 0

@@ -1,18 +1,14 @@
 -- Card-used marks: document 01, "Chains and marks" and "Numbers handed back".
-use Rattle.std.specs.Prelude.{ℕ, ◌+◌, ◌*◌, ◌-◌, ◌/◌, ◌%◌, Bool, cond, List, eqb, leb, get_or, set}
+use Rattle.std.specs.Prelude.{ℕ, ◌+◌, ◌*◌, ◌-◌, ◌/◌, ◌%◌, Bool, cond, List, eqb, leb, get_or, set, Result, Ok, Err}
 use Rattle.board.specs.Handles.{is_handle}
 use Rattle.board.specs.Layout.{functions_max, mark_size}
-use Rattle.board.specs.Statuses.{successful, general_error, bad_handle}
+use Rattle.board.specs.Statuses.{Status, successful, general_error, bad_handle}
 use Rattle.numbers.specs.Tables.{table}
-use Rattle.board.specs.declared.status.Status.{Status}
-use Rattle.card_used.specs.declared.used.CardUsed.{CardUsed}
+use Rattle.board.specs.declared.status.CallRefusal.{CallRefusal}
+use Rattle.board.specs.declared.status.CallRefusal.TheVariants.{BadHandle}
+use Rattle.card_used.specs.declared.used.Mark.{Mark}
 
--- the status, 0 free, 1 in use, 2 in use with a call-back or 3 may be taken over, and the call-back
--- address
-pub record Mark : Type 0 where
-  pub status : ℕ
-  pub call_back : ℕ
-
+-- a mark of a status and a call-back address
 abbrev pub mark : ℕ → ℕ → Mark
 mark status call_back = record { status = status; call_back = call_back }
 
@@ -37,13 +33,11 @@ call_back_kept status call_back = cond (eqb status 2) call_back 0
 abbrev pub new_mark : ℕ → ℕ → Mark
 new_mark status call_back = mark status (call_back_kept status call_back)
 
--- get used: -9; zeros where refused
-abbrev pub used_of : Bool → Mark → CardUsed
-used_of good m =
-    cond good (record { status = successful; used = m.status; call_back = m.call_back })
-    (record { status = bad_handle; used = 0; call_back = 0 })
+-- get used: -9
+abbrev pub used_of : Bool → Mark → Result Mark CallRefusal
+used_of good m = cond good (Ok m) (Err BadHandle)
 
-abbrev pub get_card_used : List ℕ → List ℕ → ℕ → CardUsed
+abbrev pub get_card_used : List ℕ → List ℕ → ℕ → Result Mark CallRefusal
 get_card_used header used handle = used_of (is_handle header handle) (mark_at used (handle - 1))
 
 -- set used: -9; -8 status above 3

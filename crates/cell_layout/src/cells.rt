@@ -19,38 +19,27 @@ fn slot_cells(records: &[u8], s: usize) -> u32
 }
 
 // The cells of all windows.
+#[tactic(auto, unfolding(crate::specs::Cells::cells_before))]
 pub fn total_of(records: &[u8]) -> u32
     ensures { result ≡ total (exponent records.now) }
 {
     let mut n = 0;
-    let mut slot = 0;
     // Invariant: n is the number of cells of the slots before this one, at most 65,536 for each.
-    while slot < WINDOWS {
+    for slot in 0..WINDOWS {
         n += slot_cells(records, slot);
-        slot += 1;
     }
     n
 }
 
-// Where the cells of each slot begin, and the total.
-fn lay_out(records: &[u8], offsets: &mut [u32])
-    requires { length offsets.old ≡ windows_max + 1 }
-    ensures { offsets.new ≡ offsets_of (exponent records.now) }
-{
-    let mut t = 0;
-    let mut s = 0;
-    // Invariant: the offsets of the first s slots stand, and t is where the next one begins.
-    while s < WINDOWS {
-        offsets[s] = t;
-        t += slot_cells(records, s);
-        s += 1;
-    }
-    offsets[WINDOWS] = t;
-}
-
-// The same of the kept records, into the lent offsets.
+// Where the cells of each slot begin, and the total, into the lent offsets.
 pub fn lay_out_cells(records: &Records, offsets: &mut CellOffsets)
     ensures { offsets.new ≡ offsets_of (exponent records.now) }
 {
-    lay_out(records, offsets);
+    let mut t = 0;
+    // Invariant: the offsets of the first s slots stand, and t is where the next one begins.
+    for s in 0..WINDOWS {
+        offsets[s] = t;
+        t += slot_cells(records, s);
+    }
+    offsets[WINDOWS] = t;
 }

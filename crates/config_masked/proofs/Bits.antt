@@ -1,40 +1,17 @@
 -- A byte written through its masks, bit by bit.
-use Prim.Native.Nat.{ℕ, zero, suc, ◌-◌, ◌*◌, ◌/◌, ◌%◌, ◌^◌, ◌<◌, min, max}
-use native.Mathlib.Nat.{pow-succ', zero-div, div-div-eq-div-mul, mod-eq_of_lt}
+use Prim.Native.Nat.{ℕ, zero, suc, ◌-◌, ◌^◌, ◌<◌, min, max}
+use native.Mathlib.Nat.{zero-div, mod-eq_of_lt}
 use native.Mathlib.Omega.{arith}
 use mathlib.Core.Bool.{false, cond, not, ◌&&◌}
 use mathlib.Core.Path.{◌≡◌, refl, ◌∙◌}
-use lib.Bits.{bit_and, bit_or, and_step, or_step, and_shr, or_shr, and_mask, and_zero_r}
+use lib.Bits.{bit_and, and_mask, and_zero_r}
 use lib.Dec.{eqb}
+use mir.Syntax.{w8}
+use Rattle.std.specs.Int.{bit_at}
+use Rattle.std.proofs.lemmas.Nat.Bits.{bit_at_and, bit_at_or, bit_at_not}
 use Rattle.numbers.specs.Numbers.{bit}
 use Rattle.config_masked.specs.Masked.{merged, written}
 use Rattle.config_masked.specs.Meaning.{WrittenBits}
-
--- digit b of a number
-abbrev digit : ℕ → ℕ → ℕ
-digit b n = n / 2 ^ b % 2
-
-and_digit : (b x y : ℕ) → digit b (bit_and x y) ≡ min (digit b x) (digit b y)
-and_digit b x y = rw (and_shr x y b, and_step (x / 2 ^ b) (y / 2 ^ b)) (omega arith)
-
-or_digit : (b x y : ℕ) → digit b (bit_or x y) ≡ max (digit b x) (digit b y)
-or_digit b x y = rw (or_shr x y b, or_step (x / 2 ^ b) (y / 2 ^ b)) (omega arith)
-
--- the next digit is that of the half
-half_digit : (b x : ℕ) → digit (suc b) x ≡ digit b (x / 2)
-half_digit b x = rw (pow-succ', ← div-div-eq-div-mul)
-
--- a number of k digits taken from all ones has the other digits
-other_digit : (b k x : ℕ) → b < k → x < 2 ^ k → digit b (2 ^ k - 1 - x) ≡ 1 - digit b x
-other_digit b zero x h s = absurd (omega arith)
-other_digit zero (suc k) x h s =
-    let t : x < 2 * 2 ^ k = rw pow-succ' at s in
-    rw pow-succ' (omega arith)
-other_digit (suc b) (suc k) x h s =
-    let t : x < 2 * 2 ^ k = rw pow-succ' at s in
-    let half : (2 ^ suc k - 1 - x) / 2 ≡ 2 ^ k - 1 - x / 2 = rw pow-succ' (omega arith) in
-    rw (half_digit b (2 ^ suc k - 1 - x), half_digit b x, half)
-    (other_digit b k (x / 2) (omega arith) (omega arith))
 
 -- a digit m of the mask chooses between the digits f and s
 merged_digit : (m f s : ℕ) → m < 2 → f < 2 → s < 2
@@ -48,12 +25,12 @@ merged_bit : (mask first second b : ℕ) → mask < 256 → b < 8
     → bit b (merged mask first second) ≡ cond (bit b mask) (bit b first) (bit b second)
 merged_bit mask first second b h k =
     rw (
-      or_digit b (bit_and first mask) (bit_and second (255 - mask)),
-      and_digit b first mask,
-      and_digit b second (255 - mask),
-      other_digit b 8 mask k h,
+      bit_at_or (bit_and first mask) (bit_and second (255 - mask)) b,
+      bit_at_and first mask b,
+      bit_at_and second (255 - mask) b,
+      bit_at_not w8 mask b h k,
     )
-    (merged_digit (digit b mask) (digit b first) (digit b second)
+    (merged_digit (bit_at mask b) (bit_at first b) (bit_at second b)
     (omega arith) (omega arith) (omega arith))
 
 -- an old digit o AND NOT a written digit n
@@ -67,8 +44,8 @@ cleared_digit (suc (suc o)) n ho hn = absurd (omega arith)
 cleared_bit : (old new b : ℕ) → new < 256 → b < 8
     → bit b (bit_and old (255 - new)) ≡ (bit b old && not (bit b new))
 cleared_bit old new b h k =
-    rw (and_digit b old (255 - new), other_digit b 8 new k h)
-    (cleared_digit (digit b old) (digit b new) (omega arith) (omega arith))
+    rw (bit_at_and old (255 - new) b, bit_at_not w8 new b h k)
+    (cleared_digit (bit_at old b) (bit_at new b) (omega arith) (omega arith))
 
 -- THEOREM: the clear mask, then the mask, decides on each bit
 pub written_bits : WrittenBits

@@ -3,10 +3,9 @@ ghost use Rattle.std.specs.Prelude.{◌≡◌};
 ghost use Rattle.numbers.specs.Numbers.{bytes};
 ghost use Rattle.config_read.specs.Read.{read_config, fast_read_config};
 
-use crate::target::{Target, target_of};
+use crate::target::target_of;
 use board::layout::{Header, Registers, register_number};
-use board::read::{FastRead, Read, refused_fast};
-use board::status::Status;
+use board::read::{FastRead, Read, fast_of};
 use numbers::number::Width;
 
 // Reads a number of a width, least byte first.
@@ -21,19 +20,11 @@ pub fn read_config(
         ≡ read_config (bytes width) header.now registers.now
         handle register }
 {
-    match target_of(header, width, handle, register) {
-        Target::Function(function) => Read {
-            status: Status::SUCCESSFUL,
-            value: register_number(registers, function, register, width),
-        },
-        Target::Refused(status) => Read {
-            status: status,
-            value: 0,
-        },
-    }
+    let function = target_of(header, width, handle, register)?;
+    Ok(register_number(registers, function, register, width))
 }
 
-// The same, with a fault flag for the status.
+// The same, with a fault flag in place of the refusal.
 pub fn fast_read_config(
     header: &Header,
     registers: &Registers,
@@ -45,11 +36,8 @@ pub fn fast_read_config(
         ≡ fast_read_config (bytes width) header.now registers.now
         handle register }
 {
-    match target_of(header, width, handle, register) {
-        Target::Function(function) => FastRead {
-            value: register_number(registers, function, register, width),
-            fault: false,
-        },
-        Target::Refused(_) => refused_fast(width),
-    }
+    fast_of(
+        width,
+        read_config(header, registers, width, handle, register),
+    )
 }

@@ -6,38 +6,34 @@ ghost use Rattle.config_read.specs.Target.{fits, target};
 
 use board::handle::{is_handle, place};
 use board::layout::Header;
-use board::status::Status;
+use board::status::CallRefusal;
 use numbers::number::{Width, is_multiple};
-
-// What the checks give.
-#[derive(Clone, Copy)]
-pub enum Target {
-    // Accepted: the place of the function, from 0.
-    Function(u32),
-    // -9, BAD_HANDLE, or then -5, BAD_REGISTER_NUMBER.
-    Refused(Status),
-}
 
 // Whether an access of a width may stand at a register; as the number is a byte, none that is
 // aligned passes the last register.
 fn fits(register: u8, width: Width) -> bool
     ensures { result ≡ fits (bytes width) register }
 {
-    is_multiple(register as u32, width)
+    is_multiple(u32::from(register), width)
 }
 
-// The function that an access through a handle is for.
-pub fn target_of(header: &Header, width: Width, handle: u32, register: u8) -> Target
+// The place, from 0, of the function that an access through a handle is for; else BAD_HANDLE, or
+// then BAD_REGISTER_NUMBER.
+#[tactic(auto, unfolding(crate::specs::Target::target))]
+pub fn target_of(
+    header: &Header,
+    width: Width,
+    handle: u32,
+    register: u8,
+) -> Result<u32, CallRefusal>
     ensures { result
         ≡ target (is_handle header.now handle) (bytes width) handle register }
 {
-    let good = is_handle(header, handle);
-    let fitting = fits(register, width);
-    if !good {
-        return Target::Refused(Status::BAD_HANDLE);
+    if !is_handle(header, handle) {
+        return Err(CallRefusal::BadHandle);
     }
-    if !fitting {
-        return Target::Refused(Status::BAD_REGISTER_NUMBER);
+    if !fits(register, width) {
+        return Err(CallRefusal::BadRegisterNumber);
     }
-    Target::Function(place(handle))
+    Ok(place(handle))
 }

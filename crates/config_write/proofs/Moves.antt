@@ -15,8 +15,8 @@ use Rattle.window_list.specs.Kept.{kept_list}
 use Rattle.window_list.specs.Meaning.{Watched}
 use Rattle.window_list.specs.Windows.{window_list}
 use Rattle.window_list.proofs.Meaning.{list_depends_on}
-use Rattle.config_read.specs.declared.target.Target.{Target}
-use Rattle.config_read.specs.declared.target.Target.TheVariants.{Function, Refused}
+use Rattle.board.specs.declared.status.CallRefusal.{CallRefusal}
+use Rattle.std.specs.Prelude.{Result, Ok, Err}
 use Rattle.config_read.specs.Target.{target}
 use Rattle.config_write.specs.Write.{clear_mask_byte, registers_written, moves_windows, write_to}
 use Rattle.config_write.specs.Meaning.{MovesWindows, ListFollows}
@@ -66,7 +66,7 @@ kept_same false l m f = f refl
 -- after an accepted write, the list that was kept or worked out anew is the list of the registers
 list_after : (w : ℕ) (header records registers windows : List ℕ) (i register value : ℕ) → register + w ≤ registers_each
     → windows ≡ kept_list (window_list header records registers)
-    → (write_to header records registers windows w register value (Function i)).windows
+    → (write_to header records registers windows w register value (Ok i)).windows
     ≡ kept_list (window_list header records (registers_written w records i register value registers))
 list_after w header records registers windows i register value h e =
     let after = registers_written w records i register value registers in
@@ -80,8 +80,8 @@ list_after w header records registers windows i register value h e =
 pub list_follows : ListFollows
 list_follows w header records registers windows handle register value e = by (target (is_handle header handle) w handle register) refl
   where
-    by : (t : Target) → target (is_handle header handle) w handle register ≡ t
+    by : (t : Result ℕ CallRefusal) → target (is_handle header handle) w handle register ≡ t
         → (write_to header records registers windows w register value t).windows
         ≡ kept_list (window_list header records (write_to header records registers windows w register value t).registers)
-    by (Refused s) f = cc e
-    by (Function i) f = list_after w header records registers windows i register value (inside_registers _ w handle register i f) e
+    by (Err s) f = cc e
+    by (Ok i) f = list_after w header records registers windows i register value (inside_registers _ w handle register i f) e

@@ -1,6 +1,6 @@
 -- What configuration writes mean (document 01, "Registers" and "Windows"; document 02, E2):
 -- statements alone, proved in proofs/Masks.antt, proofs/Written.antt and proofs/Moves.antt.
-use Rattle.std.specs.Prelude.{ℕ, ◌+◌, ◌-◌, ◌*◌, ◌/◌, ◌%◌, ◌^◌, ◌<◌, ◌≤◌, true, cond, not, ◌&&◌, List, ◌↔◌, ◌⊎◌, ◌≡◌, eqb, leb, ltb, length, get_or}
+use Rattle.std.specs.Prelude.{ℕ, ◌+◌, ◌-◌, ◌*◌, ◌/◌, ◌%◌, ◌^◌, ◌<◌, ◌≤◌, true, cond, not, ◌&&◌, List, ◌↔◌, ◌⊎◌, ◌≡◌, eqb, leb, ltb, length, get_or, Ok}
 use Rattle.numbers.specs.Numbers.{bit}
 use Rattle.board.specs.Handles.{is_handle}
 use Rattle.board.specs.Layout.{registers_each, mask_byte, register_byte}
@@ -8,7 +8,6 @@ use Rattle.board.specs.Statuses.{successful}
 use Rattle.window_list.specs.Kept.{kept_list}
 use Rattle.window_list.specs.Meaning.{Watched}
 use Rattle.window_list.specs.Windows.{window_list}
-use Rattle.config_read.specs.declared.target.Target.TheVariants.{Function}
 use Rattle.config_read.specs.Target.{target}
 use Rattle.config_masked.specs.Masked.{written}
 use Rattle.config_write.specs.Write.{clear_mask, bytes_written, moves_windows, write_config}
@@ -52,7 +51,7 @@ MaskedWrite =
 abbrev pub ReadOnly : Type 0
 ReadOnly =
     (w : ℕ) (header records registers windows : List ℕ) (handle register value i : ℕ)
-    → target (is_handle header handle) w handle register ≡ Function i
+    → target (is_handle header handle) w handle register ≡ Ok i
     → ((at : ℕ) → get_or registers at 0 < 256)
     → ((d : ℕ) → d < w → mask_byte records i (register + d) ≡ 0)
     → ((write_config w header records registers windows handle register value).status ≡ successful)

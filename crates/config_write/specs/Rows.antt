@@ -1,14 +1,13 @@
 -- Rows with literal numbers of document 01, "Registers", "Windows" and "Numbers handed back", and of
 -- document 02, E2: bytes written through their masks, status, the checks, and the writes after which
 -- the window list is worked out anew.
-use Rattle.std.specs.Prelude.{ℕ, true, false, List, [], ◌∷◌, ◌++◌, map, ◌≡◌, pos, replicate}
-use Rattle.board.specs.Statuses.{minus}
+use Rattle.std.specs.Prelude.{ℕ, true, false, List, [], ◌∷◌, ◌++◌, map, ◌≡◌, ℤ, pos, neg_ℤ, replicate}
+use Rattle.board.specs.Statuses.{number_of}
 use Rattle.config_masked.specs.Masked.{written}
 use Rattle.config_write.specs.Write.{
   clear_mask,
   moves_windows,
   ConfigWritten,
-  config_written,
   write_config,
 }
 
@@ -32,17 +31,21 @@ registers bytes = replicate 320 0 ++ bytes
 abbrev before : List ℕ
 before = 0x11 ∷ 0x22 ∷ 0x33 ∷ 0x44 ∷ []
 
+-- what a write leaves: its number, the registers and the kept list
+abbrev left : ConfigWritten → ℤ × (List ℕ × List ℕ)
+left after = (number_of after.status, (after.registers, after.windows))
+
 -- a write on a board of two; the number and the four bytes that it leaves: 0 and some, or -n and
 -- the old ones
-abbrev write : ℕ → ℕ → ℕ → ℕ → ConfigWritten
+abbrev write : ℕ → ℕ → ℕ → ℕ → ℤ × (List ℕ × List ℕ)
 write w handle register value =
-    write_config w (functions 2) records (registers before) (7 ∷ []) handle register value
+    left (write_config w (functions 2) records (registers before) (7 ∷ []) handle register value)
 
-abbrev leaves : List ℕ → ConfigWritten
-leaves bytes = config_written (record { 0 = pos 0 }) (registers bytes) (7 ∷ [])
+abbrev leaves : List ℕ → ℤ × (List ℕ × List ℕ)
+leaves bytes = (pos 0, (registers bytes, 7 ∷ []))
 
-abbrev refuses : ℕ → ConfigWritten
-refuses n = config_written (minus n) (registers before) (7 ∷ [])
+abbrev refuses : ℕ → ℤ × (List ℕ × List ℕ)
+refuses n = (neg_ℤ (pos n), (registers before, 7 ∷ []))
 
 -- four bytes from 04h on of handle 2, command and status; their masks are 03h, 05h, 30h and F9h
 abbrev from_command : List ℕ → List ℕ
@@ -81,7 +84,8 @@ pub record ConfigWriteRows : Type 0 where
   -- a write to read-only bits succeeds
   pub read_only : write 1 2 0x40 0xFF ≡ leaves (0x11 ∷ 0x22 ∷ 0x33 ∷ 0x44 ∷ [])
   -- the order of checks: -9, then -5; nothing is written
-  pub bad_handle : write_config 4 (functions 1) records (registers before) (7 ∷ []) 2 0x40 0xA1B2C3D4
+  pub bad_handle : left (
+      write_config 4 (functions 1) records (registers before) (7 ∷ []) 2 0x40 0xA1B2C3D4)
       ≡ refuses 9
   pub bad_handle_first : map (λ handle. write 2 handle 0x41 0xFFFF) (0 ∷ 2 ∷ 3 ∷ [])
       ≡ refuses 9 ∷ refuses 5 ∷ refuses 9 ∷ []

@@ -1,14 +1,12 @@
 -- Writing configuration registers: document 01, "Registers", and document 02, E2. The kept window
 -- list follows the registers that it depends on.
-use Rattle.std.specs.Prelude.{ℕ, zero, suc, ◌+◌, ◌*◌, ◌/◌, ◌%◌, Bool, cond, ◌&&◌, ◌||◌, List, eqb, leb, ltb, set}
+use Rattle.std.specs.Prelude.{ℕ, zero, suc, ◌+◌, ◌*◌, ◌/◌, ◌%◌, Bool, cond, ◌&&◌, ◌||◌, List, eqb, leb, ltb, set, Result, Ok, Err}
 use Rattle.board.specs.Handles.{is_handle}
 use Rattle.board.specs.Layout.{registers_each, mask_byte, register_byte}
-use Rattle.board.specs.Statuses.{successful}
-use Rattle.board.specs.declared.status.Status.{Status}
+use Rattle.board.specs.Statuses.{Status, successful}
+use Rattle.board.specs.declared.status.CallRefusal.{CallRefusal}
 use Rattle.window_list.specs.Kept.{kept_list}
 use Rattle.window_list.specs.Windows.{window_list}
-use Rattle.config_read.specs.declared.target.Target.{Target}
-use Rattle.config_read.specs.declared.target.Target.TheVariants.{Function, Refused}
 use Rattle.config_read.specs.Target.{target}
 use Rattle.config_masked.specs.Masked.{written}
 
@@ -56,13 +54,13 @@ config_written status registers windows =
     record { status = status; registers = registers; windows = windows }
 
 -- a write to the function at a place; a refused one leaves everything
-abbrev pub write_to : List ℕ → List ℕ → List ℕ → List ℕ → ℕ → ℕ → ℕ → Target → ConfigWritten
-write_to header records registers windows w register value (Function i) =
+abbrev pub write_to : List ℕ → List ℕ → List ℕ → List ℕ → ℕ → ℕ → ℕ → Result ℕ CallRefusal → ConfigWritten
+write_to header records registers windows w register value (Ok i) =
     let after = registers_written w records i register value registers in
     config_written successful after
     (cond (moves_windows w register) (kept_list (window_list header records after)) windows)
-write_to header records registers windows w register value (Refused s) =
-    config_written s registers windows
+write_to header records registers windows w register value (Err s) =
+    config_written (Err s) registers windows
 
 abbrev pub write_config : ℕ → List ℕ → List ℕ → List ℕ → List ℕ → ℕ → ℕ → ℕ → ConfigWritten
 write_config w header records registers windows handle register value =

@@ -18,7 +18,7 @@ use board::layout::{
 };
 use board::status::Status;
 use config_masked::byte::written;
-use config_read::target::{Target, target_of};
+use config_read::target::target_of;
 use numbers::number::{Width, bytes};
 use window_list::refresh::refresh;
 
@@ -34,10 +34,10 @@ const BASES_END: u8 = 0x28;
 fn clear_mask(register: u8, mask: u8) -> u8
     ensures { result ≡ clear_mask register mask }
 {
-    if (register == STATUS) | (register == STATUS_HIGH) {
-        return mask;
+    match register {
+        STATUS | STATUS_HIGH => mask,
+        _ => 0,
     }
-    0
 }
 
 // Writes one byte through its masks. The function is one of the table, so no position is tested.
@@ -69,9 +69,8 @@ fn write_bytes(
         registers.old }
 {
     let mut rest = value;
-    let mut i = 0;
     // Invariant: writing w - i bytes of rest from register + i on gives what the call gives.
-    while i < w {
+    for i in 0..w {
         write_byte(
             records,
             registers,
@@ -79,8 +78,7 @@ fn write_bytes(
             register + i,
             (rest % 256) as u8,
         );
-        rest = rest / 256;
-        i += 1;
+        rest /= 256;
     }
 }
 
@@ -89,9 +87,9 @@ fn write_bytes(
 fn moves_windows(register: u8, w: u8) -> bool
     ensures { result ≡ moves_windows w register }
 {
-    let end = register as u32 + w as u32;
-    ((register <= COMMAND) & ((COMMAND as u32) < end))
-        | ((register < BASES_END) & ((BASE_0 as u32) < end))
+    let end = u32::from(register) + u32::from(w);
+    ((register <= COMMAND) & (u32::from(COMMAND) < end))
+        | ((register < BASES_END) & (u32::from(BASE_0) < end))
 }
 
 // Writes a number of a width, its low bytes least first, and then works out the window list anew
@@ -110,16 +108,11 @@ pub fn write_config(
         ≡ write_config (bytes width) header.now records.now
         registers.old windows.old handle register value }
 {
-    match target_of(header, width, handle, register) {
-        Target::Function(function) => {
-            let w = bytes(width);
-            write_bytes(records, registers, function, register, w, value);
-            if moves_windows(register, w) {
-                refresh(header, records, registers, windows);
-                return Status::SUCCESSFUL;
-            }
-            Status::SUCCESSFUL
-        }
-        Target::Refused(status) => status,
+    let function = target_of(header, width, handle, register)?;
+    let w = bytes(width);
+    write_bytes(records, registers, function, register, w, value);
+    if moves_windows(register, w) {
+        refresh(header, records, registers, windows);
     }
+    Ok(())
 }

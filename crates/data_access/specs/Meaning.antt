@@ -1,12 +1,10 @@
 -- What data reads and writes mean, without the proofs: document 01, "Numbers handed back" and "Data
 -- and byte order". They are of any lent parts.
-use Rattle.std.specs.Prelude.{ℕ, ◌+◌, ◌-◌, ◌%◌, ◌^◌, ◌<◌, ◌≤◌, true, false, List, ◌↔◌, ◌≡◌, length}
-use Rattle.board.specs.Reads.{accepted_read}
-use Rattle.board.specs.Statuses.{successful}
+use Rattle.std.specs.Prelude.{ℕ, ◌+◌, ◌-◌, ◌%◌, ◌^◌, ◌<◌, ◌≤◌, true, false, List, ◌↔◌, ◌≡◌, length, pos, Ok, Err}
+use Rattle.board.specs.Reads.{value_of}
+use Rattle.board.specs.Statuses.{successful, number_of}
 use Rattle.call_edition.specs.declared.edition.InEdition.{InEdition}
-use Rattle.data_cells.specs.declared.target.CellTarget.{CellTarget}
-use Rattle.data_cells.specs.declared.target.CellTarget.TheVariants.{At, Refused}
-use Rattle.data_cells.specs.Cells.{cell_target}
+use Rattle.data_cells.specs.Cells.{CellTarget, cell_target}
 use Rattle.data_access.specs.Data.{read_data, fast_read_data, write_data}
 
 -- an accepted fast read equals the plain read; a refused one is refused as the plain read is, and
@@ -16,10 +14,10 @@ FastDataReadAgrees =
     (w : ℕ) (header records windows offsets cells : List ℕ) (space handle : ℕ)
     (address : InEdition)
     → (((fast_read_data w header records windows offsets cells space handle address).fault ≡ false)
-    ↔ ((read_data w header records windows offsets cells space handle address).status ≡ successful))
+    ↔ (number_of (read_data w header records windows offsets cells space handle address) ≡ pos 0))
     × (((fast_read_data w header records windows offsets cells space handle address).fault ≡ false
     → (fast_read_data w header records windows offsets cells space handle address).value
-    ≡ (read_data w header records windows offsets cells space handle address).value)
+    ≡ value_of (read_data w header records windows offsets cells space handle address))
     × ((fast_read_data w header records windows offsets cells space handle address).fault ≡ true
     → (fast_read_data w header records windows offsets cells space handle address).value
     ≡ 256 ^ w - 1))
@@ -34,12 +32,12 @@ DataReadBack =
     → read_data w header records windows offsets
     (write_data w header records windows offsets cells space handle address value).cells
     space handle address
-    ≡ accepted_read (value % 256 ^ w)
+    ≡ Ok (value % 256 ^ w)
 
 -- cell j is one of the w cells of an access, which has none where it is refused
 abbrev pub HasCell : ℕ → CellTarget → ℕ → Type 0
-HasCell w (At at order) j = (at ≤ j) × (j < at + w)
-HasCell w (Refused r) j = ⊥
+HasCell w (Ok c) j = (c.at ≤ j) × (j < c.at + w)
+HasCell w (Err r) j = ⊥
 
 -- every read, of any width, space, handle, address and edition, that has none of a write's cells is
 -- after the write as before it, refused or accepted, plain or fast

@@ -3,7 +3,8 @@
 -- request E1: the same in each call edition.
 use Rattle.std.specs.Prelude.{ℕ, Bool, true, false, List, [], ◌∷◌, ◌++◌, map, ◌≡◌, ℤ, pos, neg_ℤ, replicate}
 use Rattle.board.specs.FromC.{width_from_c}
-use Rattle.board.specs.declared.read.Read.{Read}
+use Rattle.board.specs.Reads.{Read, value_of}
+use Rattle.board.specs.Statuses.{number_of}
 use Rattle.board.specs.declared.read.FastRead.{FastRead}
 use Rattle.call_edition.specs.Edition.{in_edition, in_later}
 use Rattle.call_edition.specs.declared.edition.InEdition.{InEdition}
@@ -12,15 +13,29 @@ use Rattle.window.specs.Rows.{mem, clear, contested}
 use Rattle.data_access.specs.Data.{DataWritten, read_data, fast_read_data, write_data}
 use Rattle.data_access.specs.CCalls.{c_read_data, c_fast_read_data, c_write_data}
 
--- answers with their numbers
-abbrev read : ℤ → ℕ → Read
-read status value = record { status = record { 0 = status }; value = value }
+-- answers by their numbers
+pub record ReadAnswer : Type 0 where
+  pub number : ℤ
+  pub value : ℕ
+
+abbrev read : ℤ → ℕ → ReadAnswer
+read number value = record { number = number; value = value }
+
+abbrev read_answer : Read → ReadAnswer
+read_answer r = read (number_of r) (value_of r)
 
 abbrev fast_read : ℕ → Bool → FastRead
 fast_read value fault = record { value = value; fault = fault }
 
-abbrev written : ℤ → List ℕ → DataWritten
-written status cells = record { status = record { 0 = status }; cells = cells }
+pub record WriteAnswer : Type 0 where
+  pub number : ℤ
+  pub cells : List ℕ
+
+abbrev written : ℤ → List ℕ → WriteAnswer
+written number cells = record { number = number; cells = cells }
+
+abbrev write_answer : DataWritten → WriteAnswer
+write_answer w = written (number_of w.status) w.cells
 
 -- a board of one function with memory windows of 16 cells each: base register 0 in order 1 and 1 in
 -- order 2, with all widths, 2 contested, 3 for bytes alone; its offset is F0000000h
@@ -78,9 +93,10 @@ renamed number edition a =
       lent = a.lent;
     }
 
-abbrev plain : Access → Read
+abbrev plain : Access → ReadAnswer
 plain a =
-    read_data a.width header records windows offsets (cells a.lent) 0 a.handle a.address
+    read_answer
+    (read_data a.width header records windows offsets (cells a.lent) 0 a.handle a.address)
 
 abbrev fast : Access → FastRead
 fast a =
@@ -88,10 +104,11 @@ fast a =
     a.address
 
 -- writes of 89ABCDEFh
-abbrev write : Access → DataWritten
+abbrev write : Access → WriteAnswer
 write a =
-    write_data a.width header records windows offsets (cells a.lent) 0 a.handle a.address
-    0x89ABCDEF
+    write_answer
+    (write_data a.width header records windows offsets (cells a.lent) 0 a.handle a.address
+    0x89ABCDEF)
 
 -- the first byte, word and longword of the first window, and of the second
 abbrev accepted : List Access
@@ -116,28 +133,30 @@ abbrev unknown : List Access
 unknown = map (renamed 0x80000000 3) (accepted ++ refused)
 
 -- calls of C by their edition and width, with a handle and the cells of this board
-abbrev c_plain_in : ℕ → ℕ → ℕ → Read
+abbrev c_plain_in : ℕ → ℕ → ℕ → ReadAnswer
 c_plain_in edition handle width =
-    c_read_data (width_from_c width) header records windows offsets (cells 44) 0 handle
-    (in_edition 0x80000000 edition)
+    read_answer
+    (c_read_data (width_from_c width) header records windows offsets (cells 44) 0 handle
+    (in_edition 0x80000000 edition))
 
 abbrev c_fast_in : ℕ → ℕ → ℕ → FastRead
 c_fast_in edition handle width =
     c_fast_read_data (width_from_c width) header records windows offsets (cells 44) 0 handle
     (in_edition 0x80000000 edition)
 
-abbrev c_write_in : ℕ → ℕ → ℕ → DataWritten
+abbrev c_write_in : ℕ → ℕ → ℕ → WriteAnswer
 c_write_in edition handle width =
-    c_write_data (width_from_c width) header records windows offsets (cells 44) 0 handle
-    (in_edition 0x80000000 edition) 0x89ABCDEF
+    write_answer
+    (c_write_data (width_from_c width) header records windows offsets (cells 44) 0 handle
+    (in_edition 0x80000000 edition) 0x89ABCDEF)
 
-abbrev c_plain : ℕ → ℕ → Read
+abbrev c_plain : ℕ → ℕ → ReadAnswer
 c_plain = c_plain_in 2
 
 abbrev c_fast : ℕ → ℕ → FastRead
 c_fast = c_fast_in 2
 
-abbrev c_write : ℕ → ℕ → DataWritten
+abbrev c_write : ℕ → ℕ → WriteAnswer
 c_write = c_write_in 2
 
 -- editions with a handle and a width

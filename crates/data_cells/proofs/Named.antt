@@ -4,21 +4,20 @@ use mathlib.Core.List.{List}
 use mathlib.Core.Path.{◌≡◌, refl, sym, ◌∙◌}
 use Rattle.board.specs.Handles.{place_of_handle}
 use Rattle.board.proofs.Handles.{place_named}
-use Rattle.data_window.specs.declared.find.Finding.{Finding}
-use Rattle.data_window.specs.declared.find.Finding.TheVariants.{Found, Refused}
+use Rattle.std.specs.Prelude.{Ok, Err}
+use Rattle.data_window.specs.declared.find.Found.{Found}
 use Rattle.call_edition.specs.declared.edition.InEdition.{InEdition}
-use Rattle.data_window.specs.Find.{find_named}
+use Rattle.data_window.specs.Find.{Finding, find_named}
 use Rattle.data_window.proofs.Meaning.{found_means}
 use Rattle.data_window.proofs.OnBus.{found_named_lem}
-use Rattle.data_cells.specs.declared.target.CellTarget.{CellTarget}
-use Rattle.data_cells.specs.Cells.{cell_target_of, cell_target_in, cell_target}
+use Rattle.data_cells.specs.Cells.{CellTarget, cell_target_of, cell_target_in, cell_target}
 
 -- only a finding of a window asks for the function
-found_only : (records offsets : List ℕ) (room w p q : ℕ) (f : Finding) → ((base distance remaining : ℕ) → f ≡ Found base distance remaining → p ≡ q)
+found_only : (records offsets : List ℕ) (room w p q : ℕ) (f : Finding) → ((g : Found) → f ≡ Ok g → p ≡ q)
     → cell_target_in records offsets room w p f ≡ cell_target_in records offsets room w q f
 unfolding cell_target_of
-found_only records offsets room w p q (Found base distance remaining) h = rw (h base distance remaining refl)
-found_only records offsets room w p q (Refused r) h = refl
+found_only records offsets room w p q (Ok g) h = rw (h g refl)
+found_only records offsets room w p q (Err r) h = refl
 
 -- so the target for what is found is the access's: for a number that is no handle nothing is found
 pub target_named : (header records windows offsets : List ℕ) (w room space handle : ℕ) (address : InEdition) (function : ℕ) (finding : Finding) (target : CellTarget)
@@ -29,5 +28,5 @@ pub target_named : (header records windows offsets : List ℕ) (w room space han
 target_named header records windows offsets w room space handle address function finding target f h p =
     p
     ∙ found_only records offsets room w function (handle - 1) finding
-    (λ base distance remaining e. h ∙ place_named header handle (found_means _ _ _ _ _ _ _ _ base distance remaining (found_named_lem address _ base distance remaining (sym f ∙ e)).1).0.0)
+    (λ g e. h ∙ place_named header handle (found_means _ _ _ _ _ _ _ _ g (found_named_lem address _ g (sym f ∙ e)).1).0.0)
     ∙ rw f

@@ -1,30 +1,36 @@
 -- Where the cells of an access stand, and what is read and written there: document 01, "The
 -- modelled board" and "Data and byte order".
-use Rattle.std.specs.Prelude.{ℕ, ◌+◌, ◌-◌, ◌*◌, cond, List, ltb, get_or}
+use Rattle.std.specs.Prelude.{ℕ, ◌+◌, ◌-◌, ◌*◌, cond, List, ltb, get_or, Result, Ok, Err}
 use Rattle.std.proofs.lemmas.List.Edits.{sets}
 use Rattle.board.specs.Layout.{bases, byte_order}
 use Rattle.numbers.specs.Numbers.{byte_at, big, big_bytes}
 use Rattle.call_edition.specs.declared.edition.InEdition.{InEdition}
-use Rattle.data_window.specs.declared.find.Finding.{Finding}
-use Rattle.data_window.specs.declared.find.Finding.TheVariants.{Found, Refused as NoWindow}
+use Rattle.data_window.specs.declared.refusal.DataRefusal.{DataRefusal}
 use Rattle.data_window.specs.declared.refusal.DataRefusal.TheVariants.{PastBuffer}
-use Rattle.data_cells.specs.declared.target.CellTarget.{CellTarget}
-use Rattle.data_cells.specs.declared.target.CellTarget.TheVariants.{At, Refused}
-use Rattle.data_window.specs.Find.{find_named}
+use Rattle.data_cells.specs.declared.target.Cells.{Cells}
+use Rattle.data_window.specs.Find.{Finding, find_named}
 use Rattle.data_order.specs.Orders.{cell_distance, ordered}
+
+-- the cells of an access, or the check that failed
+abbrev pub CellTarget : Type 0
+CellTarget = Result Cells DataRefusal
+
+-- by the first of them and the byte order
+abbrev pub cells_from : ℕ → ℕ → CellTarget
+cells_from at order = Ok (record { at = at; order = order })
 
 -- the first cell of an access, and the byte order; whether cells are past the buffer, which only an
 -- altered board has, is tested last
 abbrev pub cells_at : ℕ → ℕ → ℕ → ℕ → ℕ → CellTarget
 cells_at begin order room w distance =
     let at = begin + cell_distance order w distance in
-    cond (ltb room (at + w)) (Refused PastBuffer) (At at order)
+    cond (ltb room (at + w)) (Err PastBuffer) (cells_from at order)
 
 -- begins b is where the cells of base register b begin, orders b its byte order
 unfoldable pub cell_target_of : (ℕ → ℕ) → (ℕ → ℕ) → ℕ → ℕ → Finding → CellTarget
-cell_target_of begins orders room w (Found base distance remaining) =
-    cells_at (begins base) (orders base) room w distance
-cell_target_of begins orders room w (NoWindow r) = Refused r
+cell_target_of begins orders room w (Ok f) =
+    cells_at (begins f.base) (orders f.base) room w f.distance
+cell_target_of begins orders room w (Err r) = Err r
 
 -- of the lent parts, for what was found in the windows of the function at a place, with so many
 -- cells lent

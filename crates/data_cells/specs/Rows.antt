@@ -1,11 +1,10 @@
 -- Rows with literal numbers of document 01, "Data and byte order" and P13: what is read of literal
 -- cells in each byte order, what a write leaves there, and where the cells of an access stand.
-use Rattle.std.specs.Prelude.{ℕ, List, [], ◌∷◌, map, ◌≡◌}
+use Rattle.std.specs.Prelude.{ℕ, List, [], ◌∷◌, map, ◌≡◌, Err}
 use Rattle.data_order.specs.Orders.{cell_distance}
-use Rattle.data_window.specs.declared.find.Finding.TheVariants.{Found, Refused as NoWindow}
+use Rattle.data_window.specs.Find.{found}
 use Rattle.data_window.specs.declared.refusal.DataRefusal.TheVariants.{Contested, PastBuffer}
-use Rattle.data_cells.specs.declared.target.CellTarget.TheVariants.{At, Refused}
-use Rattle.data_cells.specs.Cells.{cells_at, cell_target_in, cells_value, cells_after}
+use Rattle.data_cells.specs.Cells.{cells_from, cells_at, cell_target_in, cells_value, cells_after}
 
 -- the cells of P13, and four more
 abbrev eight : List ℕ
@@ -100,11 +99,11 @@ pub record DataCellsRows : Type 0 where
   -- a longword at 4 of cells from 16 on: in 24 cells its last is the buffer's last, in 23 it is
   -- past the buffer; so too a byte at 4 that order 1 has at 7
   pub last_cell : map (λ room. cells_at 16 0 room 4 4) (24 ∷ 23 ∷ [])
-      ≡ At 20 0 ∷ Refused PastBuffer ∷ []
+      ≡ cells_from 20 0 ∷ Err PastBuffer ∷ []
   pub last_moved : map (λ room. cells_at 16 1 room 1 4) (24 ∷ 23 ∷ [])
-      ≡ At 23 1 ∷ Refused PastBuffer ∷ []
+      ≡ cells_from 23 1 ∷ Err PastBuffer ∷ []
   -- the cells of base register 2 of the first function begin at 200, of the second at 800
-  pub own_cells : map (λ i. cell_target_in [] hundreds 1200 1 i (Found 2 3 13)) (0 ∷ 1 ∷ [])
-      ≡ At 203 0 ∷ At 803 0 ∷ []
+  pub own_cells : map (λ i. cell_target_in [] hundreds 1200 1 i (found 2 3 13)) (0 ∷ 1 ∷ [])
+      ≡ cells_from 203 0 ∷ cells_from 803 0 ∷ []
   -- where no window is found there are no cells
-  pub no_window : cell_target_in [] hundreds 1200 1 0 (NoWindow Contested) ≡ Refused Contested
+  pub no_window : cell_target_in [] hundreds 1200 1 0 (Err Contested) ≡ Err Contested

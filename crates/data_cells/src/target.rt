@@ -7,93 +7,67 @@ ghost use Rattle.board.specs.Spaces.{space_number};
 ghost use Rattle.data_cells.specs.Cells.{cells_at, cell_target_in, cell_target};
 
 use board::handle::place_of_handle;
-use board::layout::{BASES, CellOffsets, Header, Records, Windows, byte_order};
+use board::layout::{BASES, byte_order};
 use data_order::order::cell_distance;
-use data_window::find::Finding;
+use data_window::find::{Finding, Found};
+use data_window::map::DataMap;
 use data_window::named::{NamedAddress, find_named};
 use data_window::refusal::DataRefusal;
-use numbers::number::{Width, bytes_by_shift, u32_at};
+use numbers::number::{Width, bytes_by_shift, item_or};
 
-// The first cell and the byte order of an access, or why it is refused.
+// The first cell and the byte order of an access, all of whose cells are in the buffer.
 #[derive(Clone, Copy)]
-pub enum CellTarget {
-    // 0: all cells of the access are in the buffer.
-    At { at: usize, order: u8 },
-    // -9, -7, -8 or -2, as the refusal says.
-    Refused(DataRefusal),
+pub struct Cells {
+    pub at: usize,
+    pub order: u8,
 }
 
-// The cells for a distance into the window of a base register.
-fn cells_at(
-    records: &Records,
-    offsets: &CellOffsets,
-    room: usize,
-    width: Width,
-    function: u32,
-    base: u8,
-    distance: u32,
-) -> CellTarget
+// The cells of an access, or the check that failed.
+pub type CellTarget = Result<Cells, DataRefusal>;
+
+// The cells for a distance into the window that is found.
+fn cells_at(map: DataMap<'_>, room: usize, width: Width, function: u32, found: Found) -> CellTarget
     ensures { result ≡ cells_at
-        (get_or offsets.now (bases * function + base) 0)
-        (byte_order records.now function base)
-        room (bytes width) distance }
+        (get_or map.entry.offsets.now (bases * function + found.base) 0)
+        (byte_order map.entry.records.now function found.base)
+        room (bytes width) found.distance }
 {
-    let order = byte_order(records, function, base);
-    let begin = u32_at(offsets, BASES * (function as usize) + base as usize);
-    let at = begin as usize + cell_distance(order, width, distance) as usize;
+    let offsets = map.offsets;
+    let order = byte_order(map.records, function, found.base);
+    let slot = BASES * (function as usize) + usize::from(found.base);
+    let begin = item_or(offsets, slot, 0);
+    let at = begin as usize + cell_distance(order, width, found.distance) as usize;
     if room < at + bytes_by_shift(width) as usize {
-        return CellTarget::Refused(DataRefusal::PastBuffer);
+        return Err(DataRefusal::PastBuffer);
     }
-    CellTarget::At {
+    Ok(Cells {
         at: at,
         order: order,
-    }
+    })
 }
 
 // The cells for what was found in the windows of the function at a place, from 0.
 #[tactic(auto, unfolding(crate::specs::Cells::cell_target_of))]
 pub fn cell_target_of(
-    records: &Records,
-    offsets: &CellOffsets,
+    map: DataMap<'_>,
     room: usize,
     width: Width,
     function: u32,
     finding: Finding,
 ) -> CellTarget
-    ensures { result ≡ cell_target_in records.now offsets.now
+    ensures { result ≡ cell_target_in map.entry.records.now map.entry.offsets.now
         room (bytes width) function finding }
 {
-    match finding {
-        Finding::Found {
-            base,
-            distance,
-            remaining: _,
-        } => cells_at(records, offsets, room, width, function, base, distance),
-        Finding::Refused(refusal) => CellTarget::Refused(refusal),
-    }
+    cells_at(map, room, width, function, finding?)
 }
 
 // The cells that an access is for.
-pub fn cell_target(
-    header: &Header,
-    records: &Records,
-    windows: &Windows,
-    offsets: &CellOffsets,
-    room: usize,
-    at: NamedAddress,
-) -> CellTarget
+pub fn cell_target(map: DataMap<'_>, room: usize, at: NamedAddress) -> CellTarget
     ensures { result ≡ cell_target (bytes at.width)
-        header.now records.now windows.now offsets.now
+        map.entry.header.now map.entry.records.now map.entry.windows.now map.entry.offsets.now
         room (space_number at.space) at.handle at.address }
 {
-    let width = at.width;
-    let finding = find_named(header, records, windows, offsets, room, at);
-    cell_target_of(
-        records,
-        offsets,
-        room,
-        width,
-        place_of_handle(at.handle),
-        finding,
-    )
+    let finding = find_named(map, room, at);
+    let function = place_of_handle(at.handle);
+    cell_target_of(map, room, at.width, function, finding)
 }

@@ -1,13 +1,12 @@
 -- What is found, and when.
-use Rattle.std.proofs.Common.{◌≡◌, ℕ, ◌-◌, ◌%◌, Bool, true, false, cond, eqb, ◌⊎◌, List, [], ◌∷◌, ◌++◌, sym, refl, ap, ◌∙◌, inl, inr, true≢false, lt-ltb, eq-eqb, ne_eqb, eqb-true, le-leb}
+use Rattle.std.proofs.Common.{◌≡◌, ℕ, ◌-◌, ◌%◌, Bool, true, false, cond, eqb, ◌⊎◌, List, [], ◌∷◌, ◌++◌, sym, refl, ap, ◌∙◌, inl, inr, true≢false, lt-ltb, eq-eqb, ne_eqb, eqb-true, le-leb, Ok, Err}
 use borrow.Author.Tests.{eqb-false}
 use Rattle.numbers.specs.Numbers.{is_multiple}
 use Rattle.numbers.proofs.Tests.{both_true}
 use Rattle.window.specs.Window.{Window, end, In}
-use Rattle.data_window.specs.declared.find.Finding.{Finding}
-use Rattle.data_window.specs.declared.find.Finding.TheVariants.{Found, Refused}
+use Rattle.data_window.specs.declared.find.Found.{Found}
 use Rattle.data_window.specs.declared.refusal.DataRefusal.TheVariants.{UnknownEdition, BadHandle, ShortCells, NotAligned, Nothing, Contested, WidthMissing, PastBuffer}
-use Rattle.data_window.specs.Find.{holds, checked_window, in_list, find}
+use Rattle.data_window.specs.Find.{Finding, found, holds, checked_window, in_list, find}
 use Rattle.data_window.specs.Meaning.{HeldBy, NoneHolds, FirstHolder, Asked, Reached, Given, FindMeans}
 use Rattle.data_window.proofs.Searches.{held}
 
@@ -47,7 +46,7 @@ module _ (space handle address : ℕ) where
     first_decides v (u ∷ before) after n h =
         rw (holds_false u (n u (inl refl))) (first_decides v before after (λ x i. n x (inr i)) h)
 
-    none_decides : (l : List Window) → NoneHolds space handle address l → in_list offered space handle address l ≡ Refused Nothing
+    none_decides : (l : List Window) → NoneHolds space handle address l → in_list offered space handle address l ≡ Err Nothing
     unfolding in_list
     none_decides [] n = refl
     none_decides (u ∷ l) n = rw (holds_false u (n u (inl refl))) (none_decides l (λ x i. n x (inr i)))
@@ -82,7 +81,7 @@ module _ (good short : Bool) (offered : ℕ → Bool) (l : List Window) (space w
   met_window v r = by v.contested (offered v.base) refl refl
     where
       by : (c t : Bool) → v.contested ≡ c → offered v.base ≡ t
-          → Met (cond c (Refused Contested) (cond t (Found v.base (address - v.start) (end v - address)) (Refused WidthMissing)))
+          → Met (cond c (Err Contested) (cond t (found v.base (address - v.start) (end v - address)) (Err WidthMissing)))
       by true t c o = (v, r, c)
       by false true c o = (v, r, c, o, refl, refl, refl)
       by false false c o = (v, r, c, o)
@@ -99,7 +98,7 @@ module _ (good short : Bool) (offered : ℕ → Bool) (l : List Window) (space w
   met = by good short (is_multiple address w) refl refl refl
     where
       by : (g s a : Bool) → good ≡ g → short ≡ s → is_multiple address w ≡ a
-          → Met (cond g (cond s (Refused ShortCells) (cond a (in_list offered space handle address l) (Refused NotAligned))) (Refused BadHandle))
+          → Met (cond g (cond s (Err ShortCells) (cond a (in_list offered space handle address l) (Err NotAligned))) (Err BadHandle))
       by true false true g s a = met_list (record { good_handle = g; enough_cells = s; multiple = eqb-true (address % w) 0 a })
       by true false false g s a = (g, s, eqb-false (address % w) 0 a)
       by true true a g s m = (g, s)
@@ -116,15 +115,15 @@ module _ (good short : Bool) (offered : ℕ → Bool) (l : List Window) (space w
 
   given_found : (f : Finding) → Met f → find good short offered l space w handle address ≡ f
   unfolding find
-  given_found (Refused UnknownEdition) m = absurd m
-  given_found (Refused BadHandle) g = rw g
-  given_found (Refused ShortCells) m = rw (m.0, m.1)
-  given_found (Refused NotAligned) m = rw (m.0, m.1, ne_eqb (address % w) 0 m.2)
-  given_found (Refused Nothing) m = asked_list m.0 ∙ none_decides space handle address offered l m.1
-  given_found (Refused Contested) m = reached_window m.0 m.1 ∙ rw m.2
-  given_found (Refused WidthMissing) m = reached_window m.0 m.1 ∙ rw (m.2, m.3)
-  given_found (Refused PastBuffer) m = absurd m
-  given_found (Found base distance remaining) m =
+  given_found (Err UnknownEdition) m = absurd m
+  given_found (Err BadHandle) g = rw g
+  given_found (Err ShortCells) m = rw (m.0, m.1)
+  given_found (Err NotAligned) m = rw (m.0, m.1, ne_eqb (address % w) 0 m.2)
+  given_found (Err Nothing) m = asked_list m.0 ∙ none_decides space handle address offered l m.1
+  given_found (Err Contested) m = reached_window m.0 m.1 ∙ rw m.2
+  given_found (Err WidthMissing) m = reached_window m.0 m.1 ∙ rw (m.2, m.3)
+  given_found (Err PastBuffer) m = absurd m
+  given_found (Ok f) m =
       reached_window m.0 m.1 ∙ rw (m.2, m.3, m.4, m.5, m.6)
 
 -- THEOREM: each finding is given exactly on its condition
@@ -132,18 +131,13 @@ pub find_means : FindMeans
 find_means good short offered l space w handle address f =
     (λ e. rw e at (met good short offered l space w handle address), given_found good short offered l space w handle address f)
 
--- the checks know of no edition
-pub never_unknown : (good short : Bool) (offered : ℕ → Bool) (l : List Window) (space w handle address : ℕ)
-    → find good short offered l space w handle address ≡ Refused UnknownEdition → ⊥
-never_unknown good short offered l space w handle address e = (find_means good short offered l space w handle address (Refused UnknownEdition)).0 e
-
 -- what the laws above cite of a window that is found
-pub record FoundFor (l : List Window) (space handle address base distance remaining : ℕ) : Type 0 where
+pub record FoundFor (l : List Window) (space handle address : ℕ) (f : Found) : Type 0 where
   pub window : Window
   pub listed : In window l
   pub own : holds space handle address window ≡ true
-  pub at_base : window.base ≡ base
-  pub from_start : distance ≡ address - window.start
+  pub at_base : window.base ≡ f.base
+  pub from_start : f.distance ≡ address - window.start
 
 in_middle : (before after : List Window) (v : Window) → In v (before ++ (v ∷ after))
 in_middle [] after v = inl refl
@@ -152,18 +146,18 @@ in_middle (u ∷ before) after v = inr (in_middle before after v)
 first_in : (space handle address : ℕ) (l : List Window) (v : Window) → FirstHolder space handle address l v → In v l
 first_in space handle address l v f = rw f.listed (in_middle f.before f.after v)
 
-pub found_means : (good short : Bool) (offered : ℕ → Bool) (l : List Window) (space w handle address base distance remaining : ℕ)
-    → find good short offered l space w handle address ≡ Found base distance remaining
+pub found_means : (good short : Bool) (offered : ℕ → Bool) (l : List Window) (space w handle address : ℕ) (f : Found)
+    → find good short offered l space w handle address ≡ Ok f
     → ((good ≡ true) × (short ≡ false))
-    × (((address % w ≡ 0) × (offered base ≡ true)) × FoundFor l space handle address base distance remaining)
-found_means good short offered l space w handle address base distance remaining e =
-    let m = (find_means good short offered l space w handle address (Found base distance remaining)).0 e in
+    × (((address % w ≡ 0) × (offered f.base ≡ true)) × FoundFor l space handle address f)
+found_means good short offered l space w handle address f e =
+    let m = (find_means good short offered l space w handle address (Ok f)).0 e in
     let v = m.0 in
     let a = m.1.asked in
-    let f = m.1.first in (
+    let first = m.1.first in (
       (a.good_handle, a.enough_cells),
       (
         (a.multiple, rw (← m.4) at m.3),
-        record { window = v; listed = first_in space handle address l v f; own = holds_true space handle address v f.holder; at_base = sym m.4; from_start = m.5 },
+        record { window = v; listed = first_in space handle address l v first; own = holds_true space handle address v first.holder; at_base = sym m.4; from_start = m.5 },
       ),
     )

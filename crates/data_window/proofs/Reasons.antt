@@ -1,26 +1,24 @@
 -- Each reason, and when it is handed on: a reason that is one tells the finding.
-use Rattle.std.proofs.Common.{◌≡◌, ℕ, ◌<◌, cond, eqb, ◌↔◌, refl, ap, ◌∙◌, inl, inr, arith}
-use Rattle.data_window.specs.declared.find.Finding.{Finding}
-use Rattle.data_window.specs.declared.find.Finding.TheVariants.{Found, Refused}
+use Rattle.std.proofs.Common.{◌≡◌, ℕ, ◌<◌, cond, eqb, ◌↔◌, refl, ap, ◌∙◌, inl, inr, arith, Ok, Err}
 use Rattle.data_window.specs.declared.refusal.DataRefusal.TheVariants.{UnknownEdition, BadHandle, ShortCells, NotAligned, Nothing, Contested, WidthMissing, PastBuffer}
-use Rattle.data_window.specs.Find.{find, found_window}
+use Rattle.data_window.specs.Find.{Finding, find, found_window}
 use Rattle.data_window.specs.Meaning.{Given, Unreasoned, ReasonsGiven, ReasonsMean}
 use Rattle.data_window.proofs.Meaning.{find_means}
 
 -- the finding that a reason is of; of 0, any
 abbrev finding_for : ℕ → Finding
-finding_for n = cond (eqb n 1) (Refused NotAligned) (cond (eqb n 2) (Refused Nothing) (cond (eqb n 3) (Refused Contested) (Refused WidthMissing)))
+finding_for n = cond (eqb n 1) (Err NotAligned) (cond (eqb n 2) (Err Nothing) (cond (eqb n 3) (Err Contested) (Err WidthMissing)))
 
 pub told_by : (f : Finding) → 0 < (found_window f).reason → f ≡ finding_for (found_window f).reason
-told_by (Found base distance remaining) h = absurd (omega (arith, h))
-told_by (Refused UnknownEdition) h = absurd (omega (arith, h))
-told_by (Refused BadHandle) h = absurd (omega (arith, h))
-told_by (Refused ShortCells) h = absurd (omega (arith, h))
-told_by (Refused NotAligned) h = refl
-told_by (Refused Nothing) h = refl
-told_by (Refused Contested) h = refl
-told_by (Refused WidthMissing) h = refl
-told_by (Refused PastBuffer) h = absurd (omega (arith, h))
+told_by (Ok f) h = absurd (omega (arith, h))
+told_by (Err UnknownEdition) h = absurd (omega (arith, h))
+told_by (Err BadHandle) h = absurd (omega (arith, h))
+told_by (Err ShortCells) h = absurd (omega (arith, h))
+told_by (Err NotAligned) h = refl
+told_by (Err Nothing) h = refl
+told_by (Err Contested) h = refl
+told_by (Err WidthMissing) h = refl
+told_by (Err PastBuffer) h = absurd (omega (arith, h))
 
 -- of any finding, by the condition of each
 module _ (found : Finding) (Met : Finding → Type 0) (met : (f : Finding) → (found ≡ f) ↔ Met f) where
@@ -34,22 +32,22 @@ module _ (found : Finding) (Met : Finding → Type 0) (met : (f : Finding) → (
 
   -- none, of the findings that are left
   unreasoned : (f : Finding) → Met f → (found_window f).reason ≡ 0 → Unreasoned Met
-  unreasoned (Refused UnknownEdition) m e = inl m
-  unreasoned (Refused BadHandle) m e = inr (inl m)
-  unreasoned (Refused ShortCells) m e = inr (inr (inl m))
-  unreasoned (Refused PastBuffer) m e = inr (inr (inr (inl m)))
-  unreasoned (Found base distance remaining) m e = inr (inr (inr (inr (base, distance, remaining, m))))
-  unreasoned (Refused NotAligned) m e = absurd (omega (arith, e))
-  unreasoned (Refused Nothing) m e = absurd (omega (arith, e))
-  unreasoned (Refused Contested) m e = absurd (omega (arith, e))
-  unreasoned (Refused WidthMissing) m e = absurd (omega (arith, e))
+  unreasoned (Err UnknownEdition) m e = inl m
+  unreasoned (Err BadHandle) m e = inr (inl m)
+  unreasoned (Err ShortCells) m e = inr (inr (inl m))
+  unreasoned (Err PastBuffer) m e = inr (inr (inr (inl m)))
+  unreasoned (Ok f) m e = inr (inr (inr (inr (f, m))))
+  unreasoned (Err NotAligned) m e = absurd (omega (arith, e))
+  unreasoned (Err Nothing) m e = absurd (omega (arith, e))
+  unreasoned (Err Contested) m e = absurd (omega (arith, e))
+  unreasoned (Err WidthMissing) m e = absurd (omega (arith, e))
 
   without : Unreasoned Met → (found_window found).reason ≡ 0
-  without (inl m) = given_reason (Refused UnknownEdition) m
-  without (inr (inl m)) = given_reason (Refused BadHandle) m
-  without (inr (inr (inl m))) = given_reason (Refused ShortCells) m
-  without (inr (inr (inr (inl m)))) = given_reason (Refused PastBuffer) m
-  without (inr (inr (inr (inr (base, distance, remaining, m))))) = given_reason (Found base distance remaining) m
+  without (inl m) = given_reason (Err UnknownEdition) m
+  without (inr (inl m)) = given_reason (Err BadHandle) m
+  without (inr (inr (inl m))) = given_reason (Err ShortCells) m
+  without (inr (inr (inr (inl m)))) = given_reason (Err PastBuffer) m
+  without (inr (inr (inr (inr (f, m))))) = given_reason (Ok f) m
 
   pub reasons_given : ReasonsGiven Met (found_window found).reason
   reasons_given =

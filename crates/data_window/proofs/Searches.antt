@@ -1,23 +1,16 @@
 -- A turn of the search through the kept list, at position j.
-use Rattle.std.proofs.Common.{◌≡◌, ℕ, zero, suc, ◌+◌, ◌-◌, ◌<◌, ◌≤◌, Bool, true, false, not, eqb, ltb, leb, List, length, get_or, drop, refl, arith, ltb-true, eqb-true, leb-true}
+use Rattle.std.proofs.Common.{◌≡◌, ℕ, ◌+◌, ◌<◌, ◌≤◌, Bool, true, false, eqb, ltb, leb, List, length, get_or, drop, ltb-true, eqb-true, leb-true, Err}
 use Rattle.board.specs.Layout.{bases}
 use Rattle.numbers.proofs.Tests.{both_true}
 use Rattle.window.specs.Kept.{unpack, is_end, unpacked}
 use Rattle.window.specs.Window.{Window, end}
 use Rattle.window.proofs.Unpacked.{unpacked_none, unpacked_one, unpacked_end}
-use Rattle.data_window.specs.declared.find.Finding.TheVariants.{Refused}
 use Rattle.data_window.specs.declared.refusal.DataRefusal.TheVariants.{Nothing}
 use Rattle.data_window.specs.Find.{holds, checked_window, in_list}
 
--- a space is memory exactly if it is not I/O
-pub memory_is : (n : ℕ) → n < 2 → not (eqb n 1) ≡ eqb n 0
-memory_is zero h = refl
-memory_is (suc zero) h = refl
-memory_is (suc (suc n)) h = absurd (omega arith)
-
 module _ (offered : ℕ → Bool) (space handle address : ℕ) (l : List ℕ) (j : ℕ) where
   -- the list ends there, one that holds the address, another window; or there is none
-  pub list_none : j < length l → is_end (get_or l j 0) ≡ true → in_list offered space handle address (unpacked (drop j l)) ≡ Refused Nothing
+  pub list_none : j < length l → is_end (get_or l j 0) ≡ true → in_list offered space handle address (unpacked (drop j l)) ≡ Err Nothing
   unfolding in_list
   list_none h z = rw (unpacked_none l j h z)
 
@@ -31,7 +24,7 @@ module _ (offered : ℕ → Bool) (space handle address : ℕ) (l : List ℕ) (j
   unfolding in_list
   list_on h n t = rw (unpacked_one l j h n, t)
 
-  pub list_end : length l ≤ j → in_list offered space handle address (unpacked (drop j l)) ≡ Refused Nothing
+  pub list_end : length l ≤ j → in_list offered space handle address (unpacked (drop j l)) ≡ Err Nothing
   unfolding in_list
   list_end h = rw (unpacked_end l j h)
 
@@ -53,7 +46,3 @@ held space handle address v h =
       from = leb-true v.start address inside.0;
       to = ltb-true address (end v) inside.1;
     }
-
--- the bytes that remain, counted from the distance
-pub remains : (start length address : ℕ) → start ≤ address → length - (address - start) ≡ start + length - address
-remains start length address h = omega arith

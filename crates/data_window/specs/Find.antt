@@ -2,29 +2,21 @@
 -- checks have the same number; a finding names the check that failed, so that the order of all of
 -- them is stated. Where two windows of a function hold an address both are contested, so that the
 -- first of the list decides.
-use Rattle.std.specs.Prelude.{ℕ, ◌-◌, ◌/◌, ◌%◌, Bool, cond, ◌&&◌, List, [], ◌∷◌, ◌==◌, nat_le, nat_lt, slice_index}
+use Rattle.std.specs.Prelude.{ℕ, ◌-◌, ◌/◌, ◌%◌, Bool, cond, ◌&&◌, List, [], ◌∷◌, ◌==◌, nat_le, nat_lt, slice_index, pos, Option, Some, None, Result, Ok, Err}
 use Rattle.board.specs.Handles.{is_handle}
 use Rattle.board.specs.Layout.{bases, windows_max, widths, offset}
-use Rattle.board.specs.Statuses.{
-  successful,
-  func_not_supported,
-  buffer_too_small,
-  general_error,
-  bad_handle,
-}
-use Rattle.board.specs.declared.status.Status.{Status}
+use Rattle.board.specs.Statuses.{refusal_number}
+use Rattle.board.specs.declared.status.CallRefusal.{CallRefusal}
+use Rattle.board.specs.declared.status.CallRefusal.TheVariants as Refusals
 use Rattle.numbers.specs.Numbers.{is_multiple}
 use Rattle.numbers.specs.declared.number.Width.{Width}
-use Rattle.board.specs.declared.address.BusAddress.{BusAddress}
 use Rattle.board.specs.declared.space.Space.{Space}
 use Rattle.call_edition.specs.Edition.{is_known, bus_of}
 use Rattle.call_edition.specs.declared.edition.InEdition.{InEdition}
 use Rattle.data_window.specs.declared.find.DataAddress.{DataAddress}
-use Rattle.data_window.specs.declared.named.NamedAddress.{NamedAddress}
 use Rattle.window.specs.Kept.{unpacked}
 use Rattle.window.specs.Window.{Window, end}
-use Rattle.data_window.specs.declared.find.Finding.{Finding}
-use Rattle.data_window.specs.declared.find.Finding.TheVariants.{Found, Refused}
+use Rattle.data_window.specs.declared.find.Found.{Found}
 use Rattle.data_window.specs.declared.found.FoundWindow.{FoundWindow}
 use Rattle.data_window.specs.declared.refusal.DataRefusal.{DataRefusal}
 use Rattle.data_window.specs.declared.refusal.DataRefusal.TheVariants.{
@@ -37,11 +29,22 @@ use Rattle.data_window.specs.declared.refusal.DataRefusal.TheVariants.{
   WidthMissing,
   PastBuffer,
 }
+use Rattle.data_window.specs.declared.refusal.Reason.{Reason}
+use Rattle.data_window.specs.declared.refusal.Reason.TheVariants as Reasons
 
--- what a data access names
-abbrev pub data_address : Space → Width → ℕ → BusAddress → DataAddress
+-- what a data access names, on the bus or as its caller names that
+abbrev pub data_address : {A : Type 0} → Space → Width → ℕ → A → DataAddress A
 data_address space width handle address =
     record { space = space; width = width; handle = handle; address = address }
+
+-- the window that is found, or the check that failed
+abbrev pub Finding : Type 0
+Finding = Result Found DataRefusal
+
+-- a base register, with the distance from its window's start and the bytes that remain to the end
+abbrev pub found : ℕ → ℕ → ℕ → Finding
+found base distance remaining =
+    Ok (record { base = base; distance = distance; remaining = remaining })
 
 -- a window of a function's own, in that space, that holds the address; no function has a base
 -- register past its six
@@ -60,13 +63,13 @@ offers w widths = widths / w % 2 == 1
 -- from its start and the bytes that remain to its end
 abbrev pub checked_window : (ℕ → Bool) → ℕ → Window → Finding
 checked_window offered address w =
-    cond w.contested (Refused Contested)
-    (cond (offered w.base) (Found w.base (address - w.start) (end w - address))
-    (Refused WidthMissing))
+    cond w.contested (Err Contested)
+    (cond (offered w.base) (found w.base (address - w.start) (end w - address))
+    (Err WidthMissing))
 
 -- of the first window of a list that holds it
 unfoldable pub in_list : (ℕ → Bool) → ℕ → ℕ → ℕ → List Window → Finding
-in_list offered space handle address [] = Refused Nothing
+in_list offered space handle address [] = Err Nothing
 in_list offered space handle address (w ∷ l) =
     cond (holds space handle address w) (checked_window offered address w)
     (in_list offered space handle address l)
@@ -76,44 +79,61 @@ in_list offered space handle address (w ∷ l) =
 unfoldable pub find : Bool → Bool → (ℕ → Bool) → List Window → ℕ → ℕ → ℕ → ℕ → Finding
 find good short offered l space w handle address =
     cond good
-    (cond short (Refused ShortCells)
-    (cond (is_multiple address w) (in_list offered space handle address l) (Refused NotAligned)))
-    (Refused BadHandle)
+    (cond short (Err ShortCells)
+    (cond (is_multiple address w) (in_list offered space handle address l) (Err NotAligned)))
+    (Err BadHandle)
 
--- the number of each refusal; a cell past the buffer, which only an altered board has, is found
--- after all that is tested here
-abbrev pub status_of : DataRefusal → Status
-status_of UnknownEdition = func_not_supported
-status_of BadHandle = bad_handle
-status_of ShortCells = buffer_too_small
-status_of NotAligned = general_error
-status_of Nothing = general_error
-status_of Contested = general_error
-status_of WidthMissing = func_not_supported
-status_of PastBuffer = buffer_too_small
+-- the refusal that is handed back for each; a cell past the buffer, which only an altered board
+-- has, is found after all that is tested here
+abbrev pub refusal_of : DataRefusal → CallRefusal
+refusal_of UnknownEdition = Refusals.FuncNotSupported
+refusal_of BadHandle = Refusals.BadHandle
+refusal_of ShortCells = Refusals.BufferTooSmall
+refusal_of NotAligned = Refusals.GeneralError
+refusal_of Nothing = Refusals.GeneralError
+refusal_of Contested = Refusals.GeneralError
+refusal_of WidthMissing = Refusals.FuncNotSupported
+refusal_of PastBuffer = Refusals.BufferTooSmall
 
--- the reason handed on beside the number or the fault flag, request E3: 1 not aligned, 2 nothing
--- there, 3 contested, 4 width missing; there is none, 0, for -9, -7 and an unknown edition
+-- the reason handed on beside the number or the fault flag, request E3; there is none for -9, -7
+-- and an unknown edition
+abbrev pub reason_of : DataRefusal → Option Reason
+reason_of UnknownEdition = None
+reason_of BadHandle = None
+reason_of ShortCells = None
+reason_of NotAligned = Some Reasons.NotAligned
+reason_of Nothing = Some Reasons.Nothing
+reason_of Contested = Some Reasons.Contested
+reason_of WidthMissing = Some Reasons.WidthMissing
+reason_of PastBuffer = None
+
+-- 1 not aligned, 2 nothing there, 3 contested, 4 width missing
+abbrev pub number_of_reason : Reason → ℕ
+number_of_reason Reasons.NotAligned = 1
+number_of_reason Reasons.Nothing = 2
+number_of_reason Reasons.Contested = 3
+number_of_reason Reasons.WidthMissing = 4
+
+-- 0 where there is none
 abbrev pub no_reason : ℕ
 no_reason = 0
 
-abbrev pub reason_of : DataRefusal → ℕ
-reason_of UnknownEdition = no_reason
-reason_of BadHandle = no_reason
-reason_of ShortCells = no_reason
-reason_of NotAligned = 1
-reason_of Nothing = 2
-reason_of Contested = 3
-reason_of WidthMissing = 4
-reason_of PastBuffer = no_reason
+abbrev pub reason_number : Option Reason → ℕ
+reason_number (Some r) = number_of_reason r
+reason_number None = no_reason
 
 -- what `find_window` hands back: which window and how many bytes remain from the address to its
 -- end, or the number and the reason
 abbrev pub found_window : Finding → FoundWindow
-found_window (Found base distance remaining) =
-    record { status = successful; base = base; remaining = remaining; reason = no_reason }
-found_window (Refused r) =
-    record { status = status_of r; base = 0; remaining = 0; reason = reason_of r }
+found_window (Ok f) =
+    record { number = pos 0; base = f.base; remaining = f.remaining; reason = no_reason }
+found_window (Err r) =
+    record {
+      number = refusal_number (refusal_of r);
+      base = 0;
+      remaining = 0;
+      reason = reason_number (reason_of r);
+    }
 
 -- of the lent parts, with so many cells lent
 abbrev pub find_in : ℕ → List ℕ → List ℕ → List ℕ → List ℕ → ℕ → ℕ → ℕ → ℕ → Finding
@@ -122,14 +142,9 @@ find_in w header records windows offsets room space handle address =
     (λ b. offers w (widths records (handle - 1) b))
     (unpacked windows) space w handle address
 
--- what a caller names, in a call edition: request E1
-abbrev pub named_address : Space → Width → ℕ → InEdition → NamedAddress
-named_address space width handle address =
-    record { space = space; width = width; handle = handle; address = address }
-
 -- the edition is tested before all else
 abbrev pub if_known : InEdition → Finding → Finding
-if_known named finding = cond (is_known named) finding (Refused UnknownEdition)
+if_known named finding = cond (is_known named) finding (Err UnknownEdition)
 
 -- of the lent parts, for the bus address that the caller's number is
 abbrev pub find_named : ℕ → List ℕ → List ℕ → List ℕ → List ℕ → ℕ → ℕ → ℕ → InEdition → Finding

@@ -2,10 +2,9 @@
 -- handed back", Data: -9; -7 cells shorter than the board's total; -8 address not a multiple of the
 -- width; -8 no open window of this function in that space holds it; -8 that window is contested;
 -- -2. The window is the handle's own, and not any that holds the address ("Traps on this bus").
-use Rattle.std.specs.Prelude.{◌≡◌, ℕ, ◌-◌, ◌%◌, ◌<◌, ◌≤◌, Bool, true, false, ◌⊎◌, ◌↔◌, List, ◌∷◌, ◌++◌, ◌≢◌}
+use Rattle.std.specs.Prelude.{◌≡◌, ℕ, ◌-◌, ◌%◌, ◌<◌, ◌≤◌, Bool, true, false, ◌⊎◌, ◌↔◌, List, ◌∷◌, ◌++◌, ◌≢◌, Ok, Err}
 use Rattle.window.specs.Window.{Window, end, In}
-use Rattle.data_window.specs.declared.find.Finding.{Finding}
-use Rattle.data_window.specs.declared.find.Finding.TheVariants.{Found, Refused}
+use Rattle.data_window.specs.declared.find.Found.{Found}
 use Rattle.data_window.specs.declared.refusal.DataRefusal.TheVariants.{
   UnknownEdition,
   BadHandle,
@@ -16,7 +15,7 @@ use Rattle.data_window.specs.declared.refusal.DataRefusal.TheVariants.{
   WidthMissing,
   PastBuffer,
 }
-use Rattle.data_window.specs.Find.{find, found_window}
+use Rattle.data_window.specs.Find.{Finding, find, found_window}
 
 -- a window, of one of its six base registers, of this function in that space holds the address
 pub record HeldBy (space handle address : ℕ) (v : Window) : Type 0 where
@@ -57,18 +56,18 @@ module _ (good short : Bool) (offered : ℕ → Bool) (l : List Window) (space w
     -- An edition is tested before, and a cell past the buffer is found later, where the cells are
     -- worked out
     abbrev pub Given : Finding → Type 0
-    Given (Refused UnknownEdition) = ⊥
-    Given (Refused BadHandle) = good ≡ false
-    Given (Refused ShortCells) = (good ≡ true) × (short ≡ true)
-    Given (Refused NotAligned) = (good ≡ true) × (short ≡ false) × (address % w ≢ 0)
-    Given (Refused Nothing) = Asked good short w address × NoneHolds space handle address l
-    Given (Refused Contested) = (v : Window) × Reached v × (v.contested ≡ true)
-    Given (Refused WidthMissing) =
+    Given (Err UnknownEdition) = ⊥
+    Given (Err BadHandle) = good ≡ false
+    Given (Err ShortCells) = (good ≡ true) × (short ≡ true)
+    Given (Err NotAligned) = (good ≡ true) × (short ≡ false) × (address % w ≢ 0)
+    Given (Err Nothing) = Asked good short w address × NoneHolds space handle address l
+    Given (Err Contested) = (v : Window) × Reached v × (v.contested ≡ true)
+    Given (Err WidthMissing) =
         (v : Window) × Reached v × (v.contested ≡ false) × (offered v.base ≡ false)
-    Given (Refused PastBuffer) = ⊥
-    Given (Found base distance remaining) =
+    Given (Err PastBuffer) = ⊥
+    Given (Ok f) =
         (v : Window) × Reached v × (v.contested ≡ false) × (offered v.base ≡ true)
-        × (base ≡ v.base) × (distance ≡ address - v.start) × (remaining ≡ end v - address)
+        × (f.base ≡ v.base) × (f.distance ≡ address - v.start) × (f.remaining ≡ end v - address)
 
 -- each finding is given exactly on its condition
 abbrev pub FindMeans : Type 0
@@ -84,18 +83,18 @@ module _ (Met : Finding → Type 0) where
   -- the conditions that have no reason
   abbrev pub Unreasoned : Type 0
   Unreasoned =
-      Met (Refused UnknownEdition)
-      ⊎ (Met (Refused BadHandle)
-      ⊎ (Met (Refused ShortCells)
-      ⊎ (Met (Refused PastBuffer)
-      ⊎ ((base distance remaining : ℕ) × Met (Found base distance remaining)))))
+      Met (Err UnknownEdition)
+      ⊎ (Met (Err BadHandle)
+      ⊎ (Met (Err ShortCells)
+      ⊎ (Met (Err PastBuffer)
+      ⊎ ((f : Found) × Met (Ok f)))))
 
   pub record ReasonsGiven (reason : ℕ) : Type 0 where
     pub none : (reason ≡ 0) ↔ Unreasoned
-    pub not_aligned : (reason ≡ 1) ↔ Met (Refused NotAligned)
-    pub nothing_there : (reason ≡ 2) ↔ Met (Refused Nothing)
-    pub contested : (reason ≡ 3) ↔ Met (Refused Contested)
-    pub width_missing : (reason ≡ 4) ↔ Met (Refused WidthMissing)
+    pub not_aligned : (reason ≡ 1) ↔ Met (Err NotAligned)
+    pub nothing_there : (reason ≡ 2) ↔ Met (Err Nothing)
+    pub contested : (reason ≡ 3) ↔ Met (Err Contested)
+    pub width_missing : (reason ≡ 4) ↔ Met (Err WidthMissing)
 
 abbrev pub ReasonsMean : Type 0
 ReasonsMean =

@@ -2,15 +2,14 @@
 -- widths that a window offers, which window holds an address, each refusal of a data access by
 -- itself and each two of them at once; of request E1: what is found for an address in each call
 -- edition; and of request E3: the reason of each refusal, and what `find_window` hands back.
-use Rattle.std.specs.Prelude.{◌≡◌, ℕ, Bool, true, false, List, [], ◌∷◌, ◌++◌, map, replicate, slice_index}
-use Rattle.board.specs.Statuses.{minus}
+use Rattle.std.specs.Prelude.{◌≡◌, ℕ, Bool, true, false, List, [], ◌∷◌, ◌++◌, map, replicate, slice_index, ℤ, pos, neg_ℤ, Err}
+use Rattle.board.specs.Statuses.{refusal_number}
 use Rattle.window.specs.Kept.{pack}
 use Rattle.window.specs.Window.{Window}
 use Rattle.window.specs.Rows.{mem, io, clear, contested}
 use Rattle.call_edition.specs.Edition.{in_edition, in_draft, in_later}
 use Rattle.call_edition.specs.declared.edition.InEdition.{InEdition}
-use Rattle.data_window.specs.declared.find.Finding.{Finding}
-use Rattle.data_window.specs.declared.find.Finding.TheVariants.{Found, Refused}
+use Rattle.data_window.specs.declared.refusal.DataRefusal.{DataRefusal}
 use Rattle.data_window.specs.declared.refusal.DataRefusal.TheVariants.{
   UnknownEdition,
   BadHandle,
@@ -23,10 +22,13 @@ use Rattle.data_window.specs.declared.refusal.DataRefusal.TheVariants.{
 }
 use Rattle.data_window.specs.declared.found.FoundWindow.{FoundWindow}
 use Rattle.data_window.specs.Find.{
+  Finding,
+  found,
   offers,
   find,
-  status_of,
+  refusal_of,
   reason_of,
+  reason_number,
   found_window,
   find_in,
   find_named,
@@ -95,15 +97,24 @@ in_editions room handle number =
 -- where 1 and 2 are told two findings, and any other edition is none
 abbrev told : Finding → Finding → List Finding
 told draft later =
-    Refused UnknownEdition ∷ draft ∷ later ∷ Refused UnknownEdition ∷ Refused UnknownEdition ∷ []
+    Err UnknownEdition ∷ draft ∷ later ∷ Err UnknownEdition ∷ Err UnknownEdition ∷ []
+
+-- a number below 0
+abbrev minus : ℕ → ℤ
+minus n = neg_ℤ (pos n)
+
+-- the number of a refusal
+abbrev number : DataRefusal → ℤ
+number r = refusal_number (refusal_of r)
 
 -- what `find_window` hands back: base register and bytes that remain; number and reason
 abbrev window : ℕ → ℕ → FoundWindow
 window base remaining =
-    record { status = minus 0; base = base; remaining = remaining; reason = 0 }
+    record { number = pos 0; base = base; remaining = remaining; reason = 0 }
 
 abbrev no_window : ℕ → ℕ → FoundWindow
-no_window number reason = record { status = minus number; base = 0; remaining = 0; reason = reason }
+no_window number reason =
+    record { number = minus number; base = 0; remaining = 0; reason = reason }
 
 pub record DataWindowRows : Type 0 where
   -- bit 0: 8, bit 1: 16, bit 2: 32 bits
@@ -115,83 +126,83 @@ pub record DataWindowRows : Type 0 where
       ≡ false ∷ false ∷ true ∷ false ∷ true ∷ true ∷ false ∷ false ∷ true ∷ []
   -- the address before a window, its first, its last, and one past; so too of longwords (P9, P10)
   pub bytes_held : map (sought 0 1 1) (0x7FFFFFFF ∷ 0x80000000 ∷ 0x800003FF ∷ 0x80000400 ∷ [])
-      ≡ Refused Nothing ∷ Found 0 0 0x400 ∷ Found 0 0x3FF 1 ∷ Refused Nothing ∷ []
+      ≡ Err Nothing ∷ found 0 0 0x400 ∷ found 0 0x3FF 1 ∷ Err Nothing ∷ []
   pub longwords_held : map (sought 0 4 1) (0x7FFFFFFC ∷ 0x80000000 ∷ 0x800003FC ∷ 0x80000400 ∷ [])
-      ≡ Refused Nothing ∷ Found 0 0 0x400 ∷ Found 0 0x3FC 4 ∷ Refused Nothing ∷ []
+      ≡ Err Nothing ∷ found 0 0 0x400 ∷ found 0 0x3FC 4 ∷ Err Nothing ∷ []
   -- another handle's window does not count
   pub other_handle : map (λ handle. sought 0 4 handle 0x80000400) (1 ∷ 2 ∷ [])
-      ≡ Refused Nothing ∷ Found 0 0 0x400 ∷ []
+      ≡ Err Nothing ∷ found 0 0 0x400 ∷ []
   -- nor does a window in the other space
   pub other_space : map (λ space. sought space 1 2 0x10F) (0 ∷ 1 ∷ [])
-      ≡ Refused Nothing ∷ Found 1 0xF 1 ∷ []
+      ≡ Err Nothing ∷ found 1 0xF 1 ∷ []
   -- a window's end may be 2^32
   pub last_addresses : map (sought 0 1 1) (0xFFFFFEFF ∷ 0xFFFFFF00 ∷ 0xFFFFFFFF ∷ 0 ∷ [])
-      ≡ Refused Nothing ∷ Found 2 0 0x100 ∷ Found 2 0xFF 1 ∷ Refused Nothing ∷ []
+      ≡ Err Nothing ∷ found 2 0 0x100 ∷ found 2 0xFF 1 ∷ Err Nothing ∷ []
   -- a function has six base registers
   pub six_bases :
       map (λ b. find true false (λ c. true) (mem 0x100 0x10 1 b clear ∷ []) 0 1 1 0x100)
       (5 ∷ 6 ∷ [])
-      ≡ Found 5 0 0x10 ∷ Refused Nothing ∷ []
+      ≡ found 5 0 0x10 ∷ Err Nothing ∷ []
   -- the number of each refusal, in the order of the checks; a cell past the buffer answers -7
   pub numbers :
-      map status_of
+      map number
       (BadHandle ∷ ShortCells ∷ NotAligned ∷ Nothing ∷ Contested ∷ WidthMissing ∷ PastBuffer ∷ [])
       ≡ minus 9 ∷ minus 7 ∷ minus 8 ∷ minus 8 ∷ minus 8 ∷ minus 2 ∷ minus 7 ∷ []
-  pub edition_number : status_of UnknownEdition ≡ minus 2
+  pub edition_number : number UnknownEdition ≡ minus 2
   -- each check fails by itself
-  pub handle_alone : checked false false 0 4 1 0x80000000 ≡ Refused BadHandle
-  pub cells_alone : checked true true 0 4 1 0x80000000 ≡ Refused ShortCells
+  pub handle_alone : checked false false 0 4 1 0x80000000 ≡ Err BadHandle
+  pub cells_alone : checked true true 0 4 1 0x80000000 ≡ Err ShortCells
   pub others_alone : refused_alone true false
-      ≡ Refused NotAligned ∷ Refused Nothing ∷ Refused Contested ∷ Refused WidthMissing ∷ []
+      ≡ Err NotAligned ∷ Err Nothing ∷ Err Contested ∷ Err WidthMissing ∷ []
   -- of two that fail at once the first is told: the handle before the cells and all others
-  pub handle_and_cells : checked false true 0 4 1 0x80000000 ≡ Refused BadHandle
-  pub handle_first : refused_alone false false ≡ replicate 4 (Refused BadHandle)
+  pub handle_and_cells : checked false true 0 4 1 0x80000000 ≡ Err BadHandle
+  pub handle_first : refused_alone false false ≡ replicate 4 (Err BadHandle)
   -- the cells before the alignment, the window, the mark and the width
-  pub cells_first : refused_alone true true ≡ replicate 4 (Refused ShortCells)
+  pub cells_first : refused_alone true true ≡ replicate 4 (Err ShortCells)
   -- the alignment before the window, the mark and the width
   pub alignment_first : sought 0 4 1 0x80000402 ∷ sought 0 2 2 0x90000001 ∷ sought 1 2 2 0x101 ∷ []
-      ≡ replicate 3 (Refused NotAligned)
+      ≡ replicate 3 (Err NotAligned)
   -- the mark before the width
-  pub mark_first : sought 0 2 1 0x90000000 ≡ Refused Contested
+  pub mark_first : sought 0 2 1 0x90000000 ≡ Err Contested
   -- of the lent parts: handles are 1 to the count; cells may not be shorter than the total; the
   -- widths are those of the function's own record
   pub handles : map (λ handle. found_in 4 2832 handle 0x80000000) (0 ∷ 1 ∷ 2 ∷ 3 ∷ [])
-      ≡ Refused BadHandle ∷ Found 0 0 0x400 ∷ Refused Nothing ∷ Refused BadHandle ∷ []
+      ≡ Err BadHandle ∷ found 0 0 0x400 ∷ Err Nothing ∷ Err BadHandle ∷ []
   pub rooms : map (λ room. found_in 4 room 1 0x80000000) (2831 ∷ 2832 ∷ 2833 ∷ [])
-      ≡ Refused ShortCells ∷ Found 0 0 0x400 ∷ Found 0 0 0x400 ∷ []
+      ≡ Err ShortCells ∷ found 0 0 0x400 ∷ found 0 0 0x400 ∷ []
   pub own_widths : map (λ w. found_in w 2832 2 0x80000400) (1 ∷ 2 ∷ 4 ∷ [])
-      ≡ Refused WidthMissing ∷ Found 0 0 0x400 ∷ Found 0 0 0x400 ∷ []
+      ≡ Err WidthMissing ∷ found 0 0 0x400 ∷ found 0 0 0x400 ∷ []
   -- an unknown edition before the handle, the cells, the alignment, the window, the mark and the
   -- width, and alone
   pub edition_and_handle : map (λ handle. in_editions 2832 handle 0x80000000) (0 ∷ 9 ∷ [])
-      ≡ replicate 2 (told (Refused BadHandle) (Refused BadHandle))
+      ≡ replicate 2 (told (Err BadHandle) (Err BadHandle))
   pub edition_and_cells : in_editions 2831 1 0x80000000
-      ≡ told (Refused ShortCells) (Refused ShortCells)
+      ≡ told (Err ShortCells) (Err ShortCells)
   pub edition_and_alignment : in_editions 2832 1 0x80000002
-      ≡ told (Refused NotAligned) (Refused NotAligned)
-  pub edition_and_window : in_editions 2832 1 0x60000000 ≡ told (Refused Nothing) (Refused Nothing)
-  pub edition_and_mark : in_editions 2832 1 0x90000000 ≡ told (Refused Nothing) (Refused Contested)
+      ≡ told (Err NotAligned) (Err NotAligned)
+  pub edition_and_window : in_editions 2832 1 0x60000000 ≡ told (Err Nothing) (Err Nothing)
+  pub edition_and_mark : in_editions 2832 1 0x90000000 ≡ told (Err Nothing) (Err Contested)
   pub edition_and_width : in_editions 2832 1 0xFFFFFF00
-      ≡ told (Refused Nothing) (Refused WidthMissing)
-  pub edition_alone : in_editions 2832 1 0x80000000 ≡ told (Refused Contested) (Found 0 0 0x400)
+      ≡ told (Err Nothing) (Err WidthMissing)
+  pub edition_alone : in_editions 2832 1 0x80000000 ≡ told (Err Contested) (found 0 0 0x400)
   -- the CPU address less the function's own offset: F0000000h of handle 1, at both ends of its
   -- window
   pub draft_first : map (λ n. found_named 2832 1 (in_draft n))
       (0x6FFFFFFC ∷ 0x70000000 ∷ 0x700003FC ∷ 0x70000400 ∷ 0x800003FC ∷ [])
-      ≡ Refused Nothing ∷ Found 0 0 0x400 ∷ Found 0 0x3FC 4 ∷ Refused Nothing ∷ Refused Nothing
+      ≡ Err Nothing ∷ found 0 0 0x400 ∷ found 0 0x3FC 4 ∷ Err Nothing ∷ Err Nothing
       ∷ []
   -- 400h of handle 2
   pub draft_second : map (λ n. found_named 2832 2 (in_draft n))
       (0x800007FC ∷ 0x80000800 ∷ 0x80000BFC ∷ 0x80000C00 ∷ [])
-      ≡ Refused Nothing ∷ Found 0 0 0x400 ∷ Found 0 0x3FC 4 ∷ Refused Nothing ∷ []
+      ≡ Err Nothing ∷ found 0 0 0x400 ∷ found 0 0x3FC 4 ∷ Err Nothing ∷ []
   -- the bus address itself
   pub later_first : map (λ n. found_named 2832 1 (in_later n))
       (0x700003FC ∷ 0x800003FC ∷ 0x80000400 ∷ [])
-      ≡ Refused Nothing ∷ Found 0 0x3FC 4 ∷ Refused Nothing ∷ []
+      ≡ Err Nothing ∷ found 0 0x3FC 4 ∷ Err Nothing ∷ []
   -- the reason of each refusal, in the order of the checks: none; not aligned, nothing there,
   -- contested, width missing; none
   pub reasons :
-      map reason_of
+      map (λ r. reason_number (reason_of r))
       (UnknownEdition ∷ BadHandle ∷ ShortCells
       ∷ NotAligned ∷ Nothing ∷ Contested ∷ WidthMissing
       ∷ PastBuffer ∷ [])

@@ -21,20 +21,20 @@ use board::address::BusAddress;
 use board::handle::{is_handle, place_of_handle};
 use board::layout::{BASES, CellOffsets, Header, Records, WINDOWS, Windows, widths};
 use board::space::Space;
-use numbers::number::{Width, bytes_by_shift, is_multiple_by_shift, u32_at};
-use std::num::wrapping_sub_u32;
+use numbers::number::{Width, bytes_by_shift, is_multiple_by_shift, item_or};
 use window::kept::{base_of, handle_of, is_contested, is_end, is_io, length_of, start_of};
 
-// What a data access names: the space, the bytes that it moves, whose window, and where.
+// What a data access names: the space, the bytes that it moves, whose window, and where, on the bus
+// or as its caller names that.
 #[derive(Clone, Copy)]
-pub struct DataAddress {
+pub struct DataAddress<A> {
     pub space: Space,
     pub width: Width,
     pub handle: u32,
-    pub address: BusAddress,
+    pub address: A,
 }
 
-pub fn data_address(space: Space, width: Width, handle: u32, address: BusAddress) -> DataAddress
+pub fn data_address<A: Copy>(space: Space, width: Width, handle: u32, address: A) -> DataAddress<A>
     ensures { result ≡ data_address space width handle address }
 {
     DataAddress {
@@ -45,18 +45,17 @@ pub fn data_address(space: Space, width: Width, handle: u32, address: BusAddress
     }
 }
 
-// The window that an access is for, with its distance from the window's start and the bytes that
-// remain to its end; or the check that failed.
+// The window that an access is for: its base register, the distance from its start and the bytes
+// that remain to its end.
 #[derive(Clone, Copy)]
-pub enum Finding {
-    Found {
-        base: u8,
-        distance: u32,
-        remaining: u32,
-    },
-    // -9, -7, -8 or -2, as the refusal says.
-    Refused(DataRefusal),
+pub struct Found {
+    pub base: u8,
+    pub distance: u32,
+    pub remaining: u32,
 }
+
+// The window, or the check that failed.
+pub type Finding = Result<Found, DataRefusal>;
 
 fn is_in(w: u64, space: Space) -> bool
     ensures { result ≡ ((unpack w).space == space_number space) }
@@ -74,7 +73,7 @@ fn holds(w: u64, space: Space, handle: u32, address: u32) -> bool
     ensures { result ≡ holds (space_number space) handle address (unpack w) }
 {
     let start = start_of(w);
-    let distance = wrapping_sub_u32(address, start);
+    let distance = address.wrapping_sub(start);
     (handle_of(w) == handle)
         & ((base_of(w) < BASES as u32)
             & (is_in(w, space) & ((start <= address) & (distance < length_of(w)))))
@@ -84,7 +83,7 @@ fn holds(w: u64, space: Space, handle: u32, address: u32) -> bool
 fn offers(width: Width, widths: u8) -> bool
     ensures { result ≡ offers (bytes width) widths }
 {
-    widths as u32 / bytes_by_shift(width) % 2 == 1
+    u32::from(widths) / bytes_by_shift(width) % 2 == 1
 }
 
 // What is found in a window that holds the address.
@@ -98,18 +97,18 @@ fn check_window(records: &Records, w: u64, width: Width, function: u32, address:
     let contested = is_contested(w);
     let offered = offers(width, widths(records, function, base));
     if contested {
-        return Finding::Refused(DataRefusal::Contested);
+        return Err(DataRefusal::Contested);
     }
     if !offered {
-        return Finding::Refused(DataRefusal::WidthMissing);
+        return Err(DataRefusal::WidthMissing);
     }
     let distance = address - start_of(w);
     let remaining = length_of(w) - distance;
-    Finding::Found {
+    Ok(Found {
         base: base,
         distance: distance,
         remaining: remaining,
-    }
+    })
 }
 
 // What is found in the kept list.
@@ -126,22 +125,21 @@ fn in_list(
         (λ b. offers (bytes width) (widths records.now (handle - 1) b))
         (space_number space) handle address (unpacked list.now) }
 {
-    let mut j = 0;
-    // Invariant: the windows from j on give what the whole list gives.
-    while j < list.len() {
-        let w = list[j];
+    // Invariant: the windows from w on give what the whole list gives.
+    for &w in list {
         if is_end(w) {
-            return Finding::Refused(DataRefusal::Nothing);
+            return Err(DataRefusal::Nothing);
         }
         if holds(w, space, handle, address) {
             return check_window(records, w, width, place_of_handle(handle), address);
         }
-        j += 1;
     }
-    Finding::Refused(DataRefusal::Nothing)
+    Err(DataRefusal::Nothing)
 }
 
-// The window of a handle that holds an address, with so many cells lent.
+// The window of a handle that holds an address, with so many cells lent. It stays a call, also from
+// the functions for C, and takes the parts of a map one by one: with a map, which goes through
+// memory, the pass over a full list took a third longer.
 #[tactic(auto, unfolding(crate::specs::Find::find))]
 pub fn find_window(
     header: &Header,
@@ -149,7 +147,7 @@ pub fn find_window(
     windows: &Windows,
     offsets: &CellOffsets,
     room: usize,
-    at: DataAddress,
+    at: DataAddress<BusAddress>,
 ) -> Finding
     ensures { result ≡ find_in (bytes at.width)
         header.now records.now windows.now offsets.now
@@ -159,16 +157,16 @@ pub fn find_window(
     let width = at.width;
     let address = at.address.number();
     let good = is_handle(header, at.handle);
-    let short = room < u32_at(offsets, WINDOWS) as usize;
+    let short = room < item_or(offsets, WINDOWS, 0) as usize;
     let aligned = is_multiple_by_shift(address, width);
     if !good {
-        return Finding::Refused(DataRefusal::BadHandle);
+        return Err(DataRefusal::BadHandle);
     }
     if short {
-        return Finding::Refused(DataRefusal::ShortCells);
+        return Err(DataRefusal::ShortCells);
     }
     if !aligned {
-        return Finding::Refused(DataRefusal::NotAligned);
+        return Err(DataRefusal::NotAligned);
     }
     in_list(records, windows, space, width, at.handle, address)
 }

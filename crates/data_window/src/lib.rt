@@ -3,5 +3,6 @@
 
 pub mod find;
 pub mod found;
+pub mod map;
 pub mod named;
 pub mod refusal;

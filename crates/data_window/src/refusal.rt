@@ -1,14 +1,14 @@
-// Why a data access is refused; the number for it, document 01, "Numbers handed back", Data; and
-// the reason that is handed on beside it, request E3. Several checks have the same number, and the
-// variants keep them apart.
+// Why a data access is refused; the refusal that is handed back for it, document 01, "Numbers
+// handed back", Data; and the reason that is handed on beside it, request E3. Several checks are
+// refused alike, and the variants keep them apart.
 ghost use Rattle.std.specs.Prelude.{◌≡◌};
-ghost use Rattle.data_window.specs.Find.{status_of, reason_of};
+ghost use Rattle.data_window.specs.Find.{refusal_of, reason_of, number_of_reason};
 
-use board::status::Status;
+use board::status::CallRefusal;
 
 // The check of a data access that failed, in the order of the checks. A cell past the buffer, which
 // only an altered board has, is found last, when the cells are worked out.
-#[derive(Clone, Copy)]
+#[derive(Clone, Copy, Debug, PartialEq, Eq)]
 pub enum DataRefusal {
     // -2: the call's edition is none.
     UnknownEdition,
@@ -28,37 +28,67 @@ pub enum DataRefusal {
     PastBuffer,
 }
 
-// The number that is handed back.
-pub fn status_of(refusal: DataRefusal) -> Status
-    ensures { result ≡ status_of refusal }
-{
-    match refusal {
-        DataRefusal::UnknownEdition => Status::FUNC_NOT_SUPPORTED,
-        DataRefusal::BadHandle => Status::BAD_HANDLE,
-        DataRefusal::ShortCells => Status::BUFFER_TOO_SMALL,
-        DataRefusal::NotAligned => Status::GENERAL_ERROR,
-        DataRefusal::Nothing => Status::GENERAL_ERROR,
-        DataRefusal::Contested => Status::GENERAL_ERROR,
-        DataRefusal::WidthMissing => Status::FUNC_NOT_SUPPORTED,
-        DataRefusal::PastBuffer => Status::BUFFER_TOO_SMALL,
+// What tells apart the refusals of -8 and the width that is missing.
+#[derive(Clone, Copy, Debug, PartialEq, Eq)]
+pub enum Reason {
+    NotAligned,
+    Nothing,
+    Contested,
+    WidthMissing,
+}
+
+impl DataRefusal {
+    // The refusal that is handed back.
+    pub fn refusal(self) -> CallRefusal
+        ensures { result ≡ refusal_of self }
+    {
+        match self {
+            DataRefusal::UnknownEdition => CallRefusal::FuncNotSupported,
+            DataRefusal::BadHandle => CallRefusal::BadHandle,
+            DataRefusal::ShortCells => CallRefusal::BufferTooSmall,
+            DataRefusal::NotAligned => CallRefusal::GeneralError,
+            DataRefusal::Nothing => CallRefusal::GeneralError,
+            DataRefusal::Contested => CallRefusal::GeneralError,
+            DataRefusal::WidthMissing => CallRefusal::FuncNotSupported,
+            DataRefusal::PastBuffer => CallRefusal::BufferTooSmall,
+        }
+    }
+
+    // The reason that is handed on beside the number or the fault flag, where there is one.
+    pub fn reason(self) -> Option<Reason>
+        ensures { result ≡ reason_of self }
+    {
+        match self {
+            DataRefusal::UnknownEdition => None,
+            DataRefusal::BadHandle => None,
+            DataRefusal::ShortCells => None,
+            DataRefusal::NotAligned => Some(Reason::NotAligned),
+            DataRefusal::Nothing => Some(Reason::Nothing),
+            DataRefusal::Contested => Some(Reason::Contested),
+            DataRefusal::WidthMissing => Some(Reason::WidthMissing),
+            DataRefusal::PastBuffer => None,
+        }
     }
 }
 
-// No reason: of an accepted access, and of the refusals that have none.
-pub const NO_REASON: u8 = 0;
+impl From<DataRefusal> for CallRefusal {
+    ghost from_gives = { λ r s. s ≡ refusal_of r };
 
-// The reason that is handed on beside the number or the fault flag.
-pub fn reason_of(refusal: DataRefusal) -> u8
-    ensures { result ≡ reason_of refusal }
-{
-    match refusal {
-        DataRefusal::UnknownEdition => NO_REASON,
-        DataRefusal::BadHandle => NO_REASON,
-        DataRefusal::ShortCells => NO_REASON,
-        DataRefusal::NotAligned => 1,
-        DataRefusal::Nothing => 2,
-        DataRefusal::Contested => 3,
-        DataRefusal::WidthMissing => 4,
-        DataRefusal::PastBuffer => NO_REASON,
+    fn from(refusal: DataRefusal) -> CallRefusal {
+        refusal.refusal()
+    }
+}
+
+impl Reason {
+    // The number that stands for it; 0 stands for none.
+    pub fn number(self) -> u8
+        ensures { result ≡ number_of_reason self }
+    {
+        match self {
+            Reason::NotAligned => 1,
+            Reason::Nothing => 2,
+            Reason::Contested => 3,
+            Reason::WidthMissing => 4,
+        }
     }
 }

@@ -2,11 +2,10 @@
 use Prim.Native.Nat.{ℕ}
 use mathlib.Core.Path.{◌≡◌, sym}
 use mathlib.Core.List.{List}
-use lib.IntN.{pos}
 use Rattle.board.specs.Parts.{Parts, with_registers, with_cells, with_hooks, with_used}
 use Rattle.call_edition.specs.declared.edition.InEdition.{InEdition}
 use Rattle.numbers.specs.declared.number.Width.{Width}
-use Rattle.board.specs.declared.status.Status.{Status}
+use Rattle.board.specs.Statuses.{Status}
 use Rattle.board.specs.declared.space.Space.{Space}
 use Rattle.resource.specs.Resource.{resource_outcome, get_resource}
 use Rattle.interrupt_hook.specs.Chain.{HookOutcome, hook_outcome}
@@ -14,13 +13,13 @@ use Rattle.card_used.specs.Used.{mark_outcome, set_card_used}
 use Rattle.reset.specs.Reset.{reset_outcome, reset}
 use Rattle.load.specs.Load.{load_outcome, load}
 use Rattle.image_writer.specs.Write.{writer_outcome, write_image}
-use Rattle.image_refusals.specs.declared.verdict.Verdict.{Verdict}
+use Rattle.image_refusals.specs.Refusals.{Verdict}
 use Rattle.call.specs.declared.answer.Answer.{Answer}
 use Rattle.call.specs.declared.call.Call.{Call}
 use Rattle.call.specs.declared.call.Call.TheVariants.{Load, Reset, WriteImage, Config, Data, GetResource, SetCardUsed, Ask}
 use Rattle.call.specs.declared.call.Query.{Query}
 use Rattle.call.specs.declared.call.Access.{Access}
-use Rattle.call.specs.Answers.{answer, zeros, of_status, of_verdict}
+use Rattle.call.specs.Answers.{of_status, of_verdict}
 use Rattle.reference.specs.State.{outcome, step, queried, blanked, config_outcome, config_access, data_outcome, data_access}
 
 -- a query: its answer is made of what its function gives
@@ -42,10 +41,10 @@ pub arm_reset : (p q : Parts) (own : List ℕ) (c : Call) (s : Status) (r : Answ
 unfolding step
 arm_reset p q own c s r e a l = rw (e, a, ← l)
 
-pub arm_write : (p : Parts) (own out : List ℕ) (c : Call) (n : ℕ) (r : Answer) → c ≡ WriteImage → r ≡ answer (pos n) zeros
-    → writer_outcome n out ≡ write_image p.header p.records own → outcome r p out ≡ step p c own
+pub arm_write : (p : Parts) (own out : List ℕ) (c : Call) (v : Verdict) (r : Answer) → c ≡ WriteImage → r ≡ of_verdict v
+    → writer_outcome v out ≡ write_image p.header p.records own → outcome r p out ≡ step p c own
 unfolding step
-arm_write p own out c n r e a w = rw (e, a, ← w)
+arm_write p own out c v r e a w = rw (e, a, ← w)
 
 pub arm_config : (p : Parts) (own registers windows : List ℕ) (c : Call) (w : Width) (h register : ℕ) (access : Access) (r : Answer)
     → c ≡ Config w h register access

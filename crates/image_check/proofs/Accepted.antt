@@ -2,8 +2,9 @@
 use Prim.Native.Nat.{ℕ, zero, suc, ◌+◌, ◌*◌, ◌-◌, ◌<◌, ◌≤◌}
 use native.Mathlib.Omega.{arith}
 use mathlib.Core.Bool.{Bool, true, false, not, cond, ◌||◌}
-use mathlib.Core.Path.{◌≡◌, refl, sym, ◌∙◌, ap}
+use mathlib.Core.Path.{◌≡◌, refl, ◌∙◌}
 use mathlib.Core.List.{List}
+use Rattle.std.specs.Prelude.{Ok, Err}
 use lib.Dec.{ltb, eqb}
 use lib.ListN.{length, drop, length-drop}
 use lib.Seq.{length-take-le}
@@ -12,10 +13,10 @@ use Rattle.board.specs.Layout.{functions_max}
 use Rattle.numbers.proofs.Tests.{either_false}
 use Rattle.image_layout.specs.Image.{image_record, trailer_size, image_size, count_of, records_of, record_at}
 use Rattle.image_record.specs.Record.{record_ok}
-use Rattle.image_refusals.specs.Refusals.{Facts, image_max, cells_max, accepted, refused, bad_record, is_accepted, first_bad, first_refusal}
+use Rattle.image_refusals.specs.Refusals.{Facts, Verdict, image_max, cells_max, accepted, refused, bad_record, is_accepted, first_bad, first_refusal}
 use Rattle.image_refusals.specs.Steps.{form_refusal, records_verdict, cells_verdict}
 use Rattle.image_check.specs.Check.{facts_of, checked}
-use Rattle.image_refusals.specs.declared.verdict.Verdict.{Verdict}
+use Rattle.image_refusals.specs.declared.verdict.ImageRefusal.TheVariants.{Length, Edition, Count, Distance, Sum, Windows, Cells}
 
 -- the facts of an image that no refusal applies to
 pub record Fine (f : Facts) (room : ℕ) : Type 0 where
@@ -31,7 +32,7 @@ pub record Fine (f : Facts) (room : ℕ) : Type 0 where
   pub fits : f.total ≤ room
 
 passed : (t : Bool) (v w : Verdict) → is_accepted v ≡ false → is_accepted (cond t v w) ≡ true → (t ≡ false) × (is_accepted w ≡ true)
-passed true v w h e = let z : ◌≡◌ {A = ℕ} 0 1 = ap (λ (t : Bool). cond t 1 0) (sym h ∙ e) in absurd (omega arith)
+passed true v w h e = cc
 passed false v w h e = (refl, e)
 
 -- a test that is not met: the numbers are equal
@@ -41,14 +42,14 @@ equal a b e = eqb-true a b (not-false (eqb a b) e)
 pub fine : (f : Facts) (room : ℕ) → is_accepted (first_refusal f room) ≡ true → Fine f room
 unfolding first_refusal
 fine f room e =
-    let a = passed (ltb f.length trailer_size) (refused 1) _ refl e in
-    let b = passed (not (eqb f.edition 1)) (refused 2) _ refl a.1 in
-    let c = passed (eqb f.count 0 || ltb functions_max f.count) (refused 3) _ refl b.1 in
-    let d = passed (not (eqb f.distance (image_size f.count)) || ltb f.length (image_size f.count)) (refused 4) _ refl c.1 in
-    let g = passed (not (eqb f.sum f.said)) (refused 5) _ refl d.1 in
+    let a = passed (ltb f.length trailer_size) (refused Length) _ refl e in
+    let b = passed (not (eqb f.edition 1)) (refused Edition) _ refl a.1 in
+    let c = passed (eqb f.count 0 || ltb functions_max f.count) (refused Count) _ refl b.1 in
+    let d = passed (not (eqb f.distance (image_size f.count)) || ltb f.length (image_size f.count)) (refused Distance) _ refl c.1 in
+    let g = passed (not (eqb f.sum f.said)) (refused Sum) _ refl d.1 in
     let h = passed (ltb f.bad f.count) (bad_record f.bad) _ refl g.1 in
-    let i = passed (ltb cells_max f.total) (refused 7) _ refl h.1 in
-    let j = passed (ltb room f.total) (refused 8) accepted refl i.1 in
+    let i = passed (ltb cells_max f.total) (refused Windows) _ refl h.1 in
+    let j = passed (ltb room f.total) (refused Cells) accepted refl i.1 in
     let p = either_false _ _ c.0 in
     let q = either_false _ _ d.0 in
     let n = eqb-false f.count 0 p.0 in
@@ -78,10 +79,15 @@ all_passed pass i (suc n) h (suc d) u =
     let e : i + suc d ≡ i + 1 + d = omega arith in
     rw e (all_passed pass (i + 1) n (first_passed (pass i) i n _ h).1 d (omega arith))
 
+-- a check after another: it counts where the first refuses nothing
+abbrev pub after : Verdict → Verdict → Verdict
+after (Ok v) w = w
+after (Err r) w = Err r
+
 -- the table as the code goes through it: the trailer's refusals, then the records'
 pub by_steps : (f : Facts) (room : ℕ)
-    → let n = form_refusal f.length f.edition f.count f.distance in
-    first_refusal f room ≡ cond (eqb n 0) (records_verdict f.sum f.said f.bad f.count f.total room) (refused n)
+    → first_refusal f room
+    ≡ after (form_refusal f.length f.edition f.count f.distance) (records_verdict f.sum f.said f.bad f.count f.total room)
 unfolding first_refusal
 by_steps f room =
     each (ltb f.length trailer_size) (not (eqb f.edition 1)) (eqb f.count 0 || ltb functions_max f.count)
@@ -91,8 +97,8 @@ by_steps f room =
     v = records_verdict f.sum f.said f.bad f.count f.total room
 
     each : (a b c d : Bool)
-        → cond a (refused 1) (cond b (refused 2) (cond c (refused 3) (cond d (refused 4) v)))
-        ≡ (let n = cond a 1 (cond b 2 (cond c 3 (cond d 4 0))) in cond (eqb n 0) v (refused n))
+        → cond a (refused Length) (cond b (refused Edition) (cond c (refused Count) (cond d (refused Distance) v)))
+        ≡ after (cond a (refused Length) (cond b (refused Edition) (cond c (refused Count) (cond d (refused Distance) accepted)))) v
     each true b c d = refl
     each false true c d = refl
     each false false true d = refl
@@ -125,7 +131,7 @@ pub record Accepted (image : List ℕ) (room : ℕ) : Type 0 where
 pub accepted_image : (image : List ℕ) (room : ℕ) → is_accepted (checked image room) ≡ true → Accepted image room
 unfolding checked
 accepted_image image room e =
-    let a = passed (ltb image_max (length image)) (refused 1) _ refl e in
+    let a = passed (ltb image_max (length image)) (refused Length) _ refl e in
     record { short = ltb-false image_max (length image) a.0; fine = fine (facts_of image) room a.1 }
 
 pub accepted_passes : (image : List ℕ) (room : ℕ) → Accepted image room → checked image room ≡ accepted

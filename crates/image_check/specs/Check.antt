@@ -12,8 +12,15 @@ use Rattle.image_layout.specs.Image.{
   sum,
 }
 use Rattle.image_record.specs.Record.{record_ok}
-use Rattle.image_refusals.specs.Refusals.{Facts, image_max, refused, first_bad, first_refusal}
-use Rattle.image_refusals.specs.declared.verdict.Verdict.{Verdict}
+use Rattle.image_refusals.specs.Refusals.{
+  Facts,
+  Verdict,
+  image_max,
+  refused,
+  first_bad,
+  first_refusal,
+}
+use Rattle.image_refusals.specs.declared.verdict.ImageRefusal.TheVariants.{Length}
 
 -- what an image says of itself, where pass i tells whether its record at place i keeps the rules
 -- and k i b is the length exponent of base register b there
@@ -42,5 +49,5 @@ checked_any_length image room = first_refusal (facts_of image) room
 -- all refusals: an image longer than 65,536 bytes is refused first
 unfoldable pub checked : List ℕ → ℕ → Verdict
 checked image room =
-    cond (ltb image_max (length image)) (refused 1)
+    cond (ltb image_max (length image)) (refused Length)
     (checked_any_length image room)

@@ -1,3 +1,4 @@
 -- The definitions that contracts cite, and their rows.
 pub mod Check
+pub mod Steps
 pub mod Rows

@@ -1,13 +1,18 @@
 -- Rows with literal numbers of document 01, section "Load refusals": the upper length as a law over
 -- every image, and the verdict on a few images of one and two records, given byte by byte.
-use Rattle.std.specs.Prelude.{ℕ, ◌<◌, ◌≤◌, List, [], ◌∷◌, ◌++◌, map, ◌≡◌, pos, length, drop, replicate}
+use Rattle.std.specs.Prelude.{ℕ, ◌<◌, ◌≤◌, List, [], ◌∷◌, ◌++◌, map, ◌≡◌, length, drop, replicate}
 use Rattle.numbers.specs.Tables.{filled_up}
-use Rattle.image_refusals.specs.Refusals.{first_refusal}
-use Rattle.image_refusals.specs.declared.verdict.Verdict.{Verdict}
+use Rattle.image_refusals.specs.Refusals.{refused, first_refusal}
+use Rattle.image_refusals.specs.declared.verdict.ImageRefusal.TheVariants.{Length}
+use Rattle.image_refusals.specs.Rows.{Handed, handed, at}
 use Rattle.image_check.specs.Check.{facts_of, checked}
 
-abbrev pub verdict : ℕ → ℕ → Verdict
-verdict number place = record { number = pos number; place = place }
+-- what is handed back of the check of an image: a number and a place
+abbrev pub verdict : ℕ → ℕ → Handed
+verdict number place = at number place
+
+abbrev checked_as : List ℕ → ℕ → Handed
+checked_as image room = handed (checked image room)
 
 -- a record of these bytes from 10h on, these from mask 10h on, and these entries, else zeros
 abbrev record_of : List ℕ → List ℕ → List ℕ → List ℕ
@@ -46,15 +51,17 @@ heavy_trailer byte = 0 ∷ 0 ∷ 0x02 ∷ 0x2C ∷ 0 ∷ 1 ∷ 0 ∷ 1 ∷ 0 ∷
 pub record ImageCheckRows : Type 0 where
   -- 1 longer than 65,536 bytes, whatever else the image says; up to there the table decides
   pub longer : (image : List ℕ) (room : ℕ) → 65536 < length image
-      → checked image room ≡ verdict 1 0
+      → checked image room ≡ refused Length
+  pub longer_number : (image : List ℕ) (room : ℕ) → 65536 < length image
+      → checked_as image room ≡ verdict 1 0
   pub up_to : (image : List ℕ) (room : ℕ) → length image ≤ 65536
       → checked image room ≡ first_refusal (facts_of image) room
   -- 1 and 4 of too few bytes
-  pub short : checked (replicate 11 0) 4
-      ∷ checked (drop 1 (port_record ++ one_record 0x03 0xFD)) 4 ∷ []
+  pub short : checked_as (replicate 11 0) 4
+      ∷ checked_as (drop 1 (port_record ++ one_record 0x03 0xFD)) 4 ∷ []
       ≡ verdict 1 0 ∷ verdict 4 0 ∷ []
   -- 2 editions 2 and 0101h; 3 counts 0, 17 and 0101h; 4 distances 22Dh and 0100022Ch
-  pub forms : map (λ t. checked (port_record ++ (t ++ (0 ∷ 0 ∷ 0x03 ∷ 0xFD ∷ []))) 4)
+  pub forms : map (λ t. checked_as (port_record ++ (t ++ (0 ∷ 0 ∷ 0x03 ∷ 0xFD ∷ []))) 4)
       ((0 ∷ 0 ∷ 0x02 ∷ 0x2C ∷ 0 ∷ 1 ∷ 0 ∷ 2 ∷ [])
       ∷ (0 ∷ 0 ∷ 0x02 ∷ 0x2C ∷ 0 ∷ 1 ∷ 1 ∷ 1 ∷ [])
       ∷ (0 ∷ 0 ∷ 0x00 ∷ 0x0C ∷ 0 ∷ 0 ∷ 0 ∷ 1 ∷ [])
@@ -65,16 +72,16 @@ pub record ImageCheckRows : Type 0 where
       ≡ verdict 2 0 ∷ verdict 2 0 ∷ verdict 3 0 ∷ verdict 3 0 ∷ verdict 3 0 ∷ verdict 4 0
       ∷ verdict 4 0 ∷ []
   -- sum 03FDh, 4 cells: accepted, also after notes; 5 with a sum that is one off; 8
-  pub fine : checked (port_record ++ one_record 0x03 0xFD) 4
-      ∷ checked (7 ∷ 7 ∷ port_record ++ one_record 0x03 0xFD) 4
-      ∷ checked (port_record ++ one_record 0x03 0xFC) 4
-      ∷ checked (port_record ++ one_record 0x03 0xFD) 3 ∷ []
+  pub fine : checked_as (port_record ++ one_record 0x03 0xFD) 4
+      ∷ checked_as (7 ∷ 7 ∷ port_record ++ one_record 0x03 0xFD) 4
+      ∷ checked_as (port_record ++ one_record 0x03 0xFC) 4
+      ∷ checked_as (port_record ++ one_record 0x03 0xFD) 3 ∷ []
       ≡ verdict 0 0 ∷ verdict 0 0 ∷ verdict 5 0 ∷ verdict 8 0 ∷ []
   -- the sum has four bytes
-  pub heavy_sum : checked (heavy ++ heavy_trailer 1) 0 ∷ checked (heavy ++ heavy_trailer 0) 0 ∷ []
+  pub heavy_sum : map (λ byte. checked_as (heavy ++ heavy_trailer byte) 0) (1 ∷ 0 ∷ [])
       ≡ verdict 0 0 ∷ verdict 5 0 ∷ []
   -- 6, the first record that breaks a rule and the second; 7, 65,540 cells
-  pub bad : checked (no_width ++ one_record 0x03 0xFC) 4
-      ∷ checked (port_record ++ (no_width ++ two_records 0x07 0xF9)) 4
-      ∷ checked (large ++ one_record 0x06 0x0C) 70000 ∷ []
+  pub bad : checked_as (no_width ++ one_record 0x03 0xFC) 4
+      ∷ checked_as (port_record ++ (no_width ++ two_records 0x07 0xF9)) 4
+      ∷ checked_as (large ++ one_record 0x06 0x0C) 70000 ∷ []
       ≡ verdict 6 0 ∷ verdict 6 1 ∷ verdict 7 0 ∷ []

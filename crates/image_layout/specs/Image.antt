@@ -1,9 +1,9 @@
 -- A board image: document 01, "Board image". Everything is found by its distance back from the
 -- image's end.
-use Rattle.std.specs.Prelude.{ℕ, ◌+◌, ◌-◌, ◌*◌, List, [], ◌∷◌, ◌++◌, length, take, drop}
+use Rattle.std.specs.Prelude.{ℕ, ◌+◌, ◌-◌, ◌*◌, List, ◌++◌, length, take, drop, sum_by}
 use Rattle.numbers.specs.Numbers.{byte_at, big, big_bytes}
 use Rattle.board.specs.Layout.{record_size}
-use Rattle.image_layout.specs.declared.layout.Range.{Range}
+use Rattle.std.specs.declared.ops.Range.{Range}
 use Rattle.image_layout.specs.declared.trailer.Trailer.{Trailer}
 
 -- bytes of a record as an image has it, and of the trailer
@@ -44,9 +44,9 @@ trailer_of image =
     }
 
 -- where the records stand in an image of so many bytes
-abbrev pub records_range : ℕ → ℕ → Range
+abbrev pub records_range : ℕ → ℕ → Range ℕ
 records_range long count =
-    record { from = long - image_size count; to = long - image_size count + image_record * count }
+    record { start = long - image_size count; end = long - image_size count + image_record * count }
 
 -- the bytes of the records, and those of the record at place i of them
 abbrev pub records_of : List ℕ → List ℕ
@@ -58,8 +58,7 @@ record_at records i = take image_record (drop (image_record * i) records)
 
 -- sum of all bytes
 unfoldable pub sum : List ℕ → ℕ
-sum [] = 0
-sum (b ∷ l) = b + sum l
+sum l = sum_by (λ b. b) l
 
 -- the trailer that is written
 abbrev pub trailer : ℕ → ℕ → List ℕ

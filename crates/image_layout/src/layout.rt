@@ -1,20 +1,15 @@
 // The lengths of an image's parts, and where they stand: all is found from the end, as notes of any
 // length may come before the records.
-ghost use Rattle.std.specs.Prelude.{◌≡◌, ◌-◌};
+ghost use Rattle.std.specs.Prelude.{◌≡◌};
 ghost use Rattle.image_layout.specs.Image.{image_size, records_range};
+
+use std::ops::Range;
 
 // Bytes of a record as an image has it; how long a kept one is, the board says.
 pub const IMAGE_RECORD: usize = 544;
 
 // Bytes of the trailer.
 pub const TRAILER: usize = 12;
-
-// A part of an image: where it begins, and the first position past it.
-#[derive(Clone, Copy)]
-pub struct Range {
-    pub from: usize,
-    pub to: usize,
-}
 
 // Bytes of count records and the trailer.
 pub fn image_size(count: u32) -> usize
@@ -23,20 +18,10 @@ pub fn image_size(count: u32) -> usize
     IMAGE_RECORD * count as usize + TRAILER
 }
 
-// The position at a distance back from the end, 0 where there is none.
-pub(crate) fn position_back(long: usize, distance: usize) -> usize
-    ensures { result ≡ long - distance }
-{
-    if long < distance { 0 } else { long - distance }
-}
-
 // Where the records of an image stand that is so long and has so many.
-pub fn records_range(long: usize, count: u32) -> Range
+pub fn records_range(long: usize, count: u32) -> Range<usize>
     ensures { result ≡ records_range long count }
 {
-    let from = position_back(long, image_size(count));
-    Range {
-        from: from,
-        to: from + IMAGE_RECORD * count as usize,
-    }
+    let from = long.saturating_sub(image_size(count));
+    from..from + IMAGE_RECORD * count as usize
 }

@@ -3,7 +3,6 @@ ghost use Rattle.std.specs.Prelude.{◌≡◌};
 ghost use Rattle.numbers.specs.Numbers.{bytes};
 ghost use Rattle.image_layout.specs.Image.{back, trailer_of};
 
-use crate::layout::position_back;
 use numbers::number::{Width, big_at};
 
 // The trailer's numbers, in their order.
@@ -19,7 +18,7 @@ pub struct Trailer {
 fn number_back(image: &[u8], distance: usize, width: Width) -> u32
     ensures { result ≡ back (bytes width) image.now distance }
 {
-    big_at(image, position_back(image.len(), distance), width)
+    big_at(image, image.len().saturating_sub(distance), width)
 }
 
 // The trailer of an image: its last 12 bytes.

@@ -22,5 +22,6 @@ image_refusals_rows =
       seven_before_eight = refl;
       no_place = refl;
       first_places = refl;
+      numbers = refl;
       acceptances = refl;
     }

@@ -1,14 +1,28 @@
 -- Rows with literal numbers of document 01, section "Load refusals": each number by itself at its
 -- boundary, each two neighbours where both apply, and the place.
-use Rattle.std.specs.Prelude.{ℕ, true, false, not, [], ◌∷◌, map, ◌≡◌, ltb, eqb, ℤ, pos, neg_ℤ}
+use Rattle.std.specs.Prelude.{ℕ, true, false, not, List, [], ◌∷◌, map, ◌≡◌, ltb, eqb, ℤ, pos}
 use Rattle.image_refusals.specs.Refusals.{
   Facts,
+  Verdict,
   image_max,
+  accepted,
+  refused,
+  bad_record,
   is_accepted,
+  verdict_number,
+  verdict_place,
   first_bad,
   first_refusal,
 }
-use Rattle.image_refusals.specs.declared.verdict.Verdict.{Verdict}
+use Rattle.image_refusals.specs.declared.verdict.ImageRefusal.TheVariants.{
+  Length,
+  Edition,
+  Count,
+  Distance,
+  Sum,
+  Windows,
+  Cells,
+}
 
 -- what an image says of itself, in the order of the refusals
 abbrev image : ℕ → ℕ → ℕ → ℕ → ℕ → ℕ → ℕ → ℕ → Facts
@@ -24,16 +38,33 @@ image length edition count distance said sum bad total =
       total = total;
     }
 
--- a verdict that names a record, and one that names none
-abbrev at : ℤ → ℕ → Verdict
-at number place = record { number = number; place = place }
+-- what is handed back of a verdict: its number and its place
+pub record Handed : Type 0 where
+  pub number : ℤ
+  pub place : ℕ
 
-abbrev verdict : ℕ → Verdict
-verdict number = at (pos number) 0
+abbrev pub handed : Verdict → Handed
+handed v = record { number = verdict_number v; place = verdict_place v }
 
--- the first refusal, with 16 cells lent
-abbrev checked16 : Facts → Verdict
-checked16 f = first_refusal f 16
+-- a number with a place, and with none
+abbrev pub at : ℕ → ℕ → Handed
+at number place = record { number = pos number; place = place }
+
+abbrev verdict : ℕ → Handed
+verdict number = at number 0
+
+-- the first refusal, with so many cells lent, and with 16
+abbrev checked : Facts → ℕ → Handed
+checked f room = handed (first_refusal f room)
+
+abbrev checked16 : Facts → Handed
+checked16 f = checked f 16
+
+-- a verdict of each kind, in the order of the numbers
+abbrev every_verdict : List Verdict
+every_verdict =
+    accepted ∷ refused Length ∷ refused Edition ∷ refused Count ∷ refused Distance
+    ∷ refused Sum ∷ bad_record 3 ∷ refused Windows ∷ refused Cells ∷ []
 
 pub record ImageRefusalsRows : Type 0 where
   -- 1 shorter than 12 bytes; so short an image has no room for its record
@@ -61,15 +92,15 @@ pub record ImageRefusalsRows : Type 0 where
       ≡ verdict 5 ∷ verdict 0 ∷ verdict 5 ∷ []
   -- 6 a record breaks a rule: its place is returned; none of 2 and of 16 does at their count
   pub bad_records : map (λ n. checked16 (image 1100 1 2 1100 7 7 n 16)) (0 ∷ 1 ∷ 2 ∷ [])
-      ≡ at (pos 6) 0 ∷ at (pos 6) 1 ∷ verdict 0 ∷ []
+      ≡ at 6 0 ∷ at 6 1 ∷ verdict 0 ∷ []
   pub last_bad_record : map (λ n. checked16 (image 8716 1 16 8716 7 7 n 16)) (15 ∷ 16 ∷ [])
-      ≡ at (pos 6) 15 ∷ verdict 0 ∷ []
+      ≡ at 6 15 ∷ verdict 0 ∷ []
   -- 7 windows above 65,536 in total, with cells enough
-  pub totals : map (λ n. first_refusal (image 556 1 1 556 7 7 1 n) 70000)
+  pub totals : map (λ n. checked (image 556 1 1 556 7 7 1 n) 70000)
       (0 ∷ 65535 ∷ 65536 ∷ 65537 ∷ [])
       ≡ verdict 0 ∷ verdict 0 ∷ verdict 0 ∷ verdict 7 ∷ []
   -- 8 lent cells too short
-  pub rooms : map (first_refusal (image 556 1 1 556 7 7 1 16)) (0 ∷ 15 ∷ 16 ∷ 17 ∷ [])
+  pub rooms : map (checked (image 556 1 1 556 7 7 1 16)) (0 ∷ 15 ∷ 16 ∷ 17 ∷ [])
       ≡ verdict 8 ∷ verdict 8 ∷ verdict 0 ∷ verdict 0 ∷ []
   -- the first that applies: 1 and 2, 2 and 3, 3 and 4, 4 and 5, 5 and 6, 6 and 7
   pub neighbours : map checked16
@@ -80,9 +111,9 @@ pub record ImageRefusalsRows : Type 0 where
       ≡ verdict 1 ∷ verdict 2 ∷ verdict 2
       ∷ verdict 3 ∷ verdict 3
       ∷ verdict 4 ∷ verdict 4
-      ∷ verdict 5 ∷ at (pos 6) 1 ∷ []
+      ∷ verdict 5 ∷ at 6 1 ∷ []
   -- 7 and 8
-  pub seven_before_eight : map (first_refusal (image 556 1 1 556 7 7 1 65537)) (0 ∷ 65536 ∷ [])
+  pub seven_before_eight : map (checked (image 556 1 1 556 7 7 1 65537)) (0 ∷ 65536 ∷ [])
       ≡ verdict 7 ∷ verdict 7 ∷ []
   -- with other numbers the place is 0, though a record at place 1 breaks a rule
   pub no_place : map checked16
@@ -93,7 +124,10 @@ pub record ImageRefusalsRows : Type 0 where
   pub first_places : map (λ pass. first_bad pass 0 3)
       ((λ i. true) ∷ (λ i. false) ∷ (λ i. not (eqb i 1)) ∷ (λ i. ltb i 1) ∷ (λ i. ltb i 2) ∷ [])
       ≡ 3 ∷ 0 ∷ 1 ∷ 1 ∷ 2 ∷ []
+  -- the number of each, 0 where nothing is refused, and the place with it
+  pub numbers : map handed every_verdict
+      ≡ verdict 0 ∷ verdict 1 ∷ verdict 2 ∷ verdict 3 ∷ verdict 4 ∷ verdict 5 ∷ at 6 3
+      ∷ verdict 7 ∷ verdict 8 ∷ []
   -- only 0 is no refusal
-  pub acceptances : map (λ n. is_accepted (at n 0))
-      (pos 0 ∷ pos 1 ∷ pos 2 ∷ pos 3 ∷ pos 4 ∷ pos 5 ∷ pos 6 ∷ pos 7 ∷ pos 8 ∷ neg_ℤ (pos 1) ∷ [])
-      ≡ true ∷ false ∷ false ∷ false ∷ false ∷ false ∷ false ∷ false ∷ false ∷ false ∷ []
+  pub acceptances : map is_accepted every_verdict
+      ≡ true ∷ false ∷ false ∷ false ∷ false ∷ false ∷ false ∷ false ∷ false ∷ []

@@ -1,3 +1,3 @@
--- Laws of images put, which the crates above cite too, and the rows.
+-- The length of a trailer, which the crates above cite too, and the rows.
 pub mod Lists
 pub mod Rows

@@ -1,7 +1,22 @@
 -- Rows with literal numbers of document 01, section "Board image": the writer's refusals in their
 -- order, the image that it writes, and the output past it.
-use Rattle.std.specs.Prelude.{ℕ, List, [], ◌∷◌, ◌++◌, map, ◌≡◌, replicate}
-use Rattle.image_writer.specs.Write.{writer_outcome, write_image}
+use Rattle.std.specs.Prelude.{ℕ, List, [], ◌∷◌, ◌++◌, map, ◌≡◌, ℤ, pos, replicate}
+use Rattle.image_refusals.specs.Refusals.{verdict_number}
+use Rattle.image_writer.specs.Write.{WriterOutcome, write_image}
+
+-- what is handed back, as a number, and what the output holds
+pub record Written : Type 0 where
+  pub number : ℤ
+  pub out : List ℕ
+
+abbrev written_as : ℕ → List ℕ → Written
+written_as number out = record { number = pos number; out = out }
+
+abbrev numbered : WriterOutcome → Written
+numbered w = record { number = verdict_number w.verdict; out = w.out }
+
+abbrev written_to : List ℕ → List ℕ → List ℕ → Written
+written_to header records out = numbered (write_image header records out)
 
 -- an output of n bytes as lent
 abbrev lent : ℕ → List ℕ
@@ -24,14 +39,14 @@ image_of_both =
 
 pub record ImageWriterRows : Type 0 where
   -- 1 is tested first, an empty board's image being 12 bytes; then 3
-  pub empty_board : map (λ n. write_image (0 ∷ 0 ∷ 0 ∷ 0 ∷ []) records (lent n)) (0 ∷ 11 ∷ 12 ∷ [])
-      ≡ writer_outcome 1 [] ∷ writer_outcome 1 (lent 11) ∷ writer_outcome 3 (lent 12) ∷ []
+  pub empty_board : map (λ n. written_to (0 ∷ 0 ∷ 0 ∷ 0 ∷ []) records (lent n)) (0 ∷ 11 ∷ 12 ∷ [])
+      ≡ written_as 1 [] ∷ written_as 1 (lent 11) ∷ written_as 3 (lent 12) ∷ []
   -- 1 where the output is shorter than the image
-  pub shorter : write_image (1 ∷ 0 ∷ 0 ∷ 0 ∷ []) records (lent 555)
-      ∷ write_image (2 ∷ 0 ∷ 0 ∷ 0 ∷ []) records (lent 1099) ∷ []
-      ≡ writer_outcome 1 (lent 555) ∷ writer_outcome 1 (lent 1099) ∷ []
+  pub shorter : written_to (1 ∷ 0 ∷ 0 ∷ 0 ∷ []) records (lent 555)
+      ∷ written_to (2 ∷ 0 ∷ 0 ∷ 0 ∷ []) records (lent 1099) ∷ []
+      ≡ written_as 1 (lent 555) ∷ written_as 1 (lent 1099) ∷ []
   -- no notes, edition 1, all records; output past the image stays
-  pub written : map (λ n. write_image (1 ∷ 0 ∷ 0 ∷ 0 ∷ []) records (lent n)) (556 ∷ 558 ∷ [])
-      ≡ writer_outcome 0 image_of_first ∷ writer_outcome 0 (image_of_first ++ 0xEE ∷ 0xEE ∷ []) ∷ []
-  pub both_written : write_image (2 ∷ 0 ∷ 0 ∷ 0 ∷ []) records (lent 1101)
-      ≡ writer_outcome 0 (image_of_both ++ 0xEE ∷ [])
+  pub written : map (λ n. written_to (1 ∷ 0 ∷ 0 ∷ 0 ∷ []) records (lent n)) (556 ∷ 558 ∷ [])
+      ≡ written_as 0 image_of_first ∷ written_as 0 (image_of_first ++ 0xEE ∷ 0xEE ∷ []) ∷ []
+  pub both_written : written_to (2 ∷ 0 ∷ 0 ∷ 0 ∷ []) records (lent 1101)
+      ≡ written_as 0 (image_of_both ++ 0xEE ∷ [])

@@ -3,12 +3,8 @@
 -- most one hook; the chain of a line is what the array has of it, in its order.
 use Rattle.std.specs.Prelude.{ℕ, zero, suc, ◌+◌, ◌*◌, ◌-◌, ◌/◌, ◌%◌, Bool, cond, ◌&&◌, not, List, [], ◌∷◌, eqb, leb, get_or}
 use Rattle.board.specs.Layout.{functions_max, hook_size, record_byte}
+use Rattle.interrupt_array.specs.declared.hooks.Hook.{Hook}
 use Rattle.numbers.specs.Tables.{table, filled_up}
-
-pub record Hook : Type 0 where
-  pub handle : ℕ
-  pub handler : ℕ
-  pub parameter : ℕ
 
 abbrev pub hook : ℕ → ℕ → ℕ → Hook
 hook handle handler parameter = record { handle = handle; handler = handler; parameter = parameter }

@@ -6,7 +6,15 @@ ghost use Rattle.interrupt_array.specs.Hooks.{hook_at, line_of, pin_of, is_route
 
 use board::handle::place;
 use board::layout::{HOOK, Hooks, Records, record_byte};
-use numbers::number::u32_at;
+use numbers::number::item_or;
+
+// A hook: whose it is, the handler's address, and what is handed to the handler. Handle 0 is none.
+#[derive(Clone, Copy)]
+pub struct Hook {
+    pub handle: u32,
+    pub handler: u32,
+    pub parameter: u32,
+}
 
 // The registers that say how a function interrupts.
 const LINE: u32 = 0x3C;
@@ -16,30 +24,23 @@ const PIN: u32 = 0x3D;
 // The last line that there is.
 pub const LAST_LINE: u32 = 15;
 
-// The three numbers of entry e; zeros where there is no entry.
-pub fn handle_at(hooks: &Hooks, e: u32) -> u32
-    ensures { result ≡ (hook_at hooks.now e).handle }
+// Entry e; zeros where there is none.
+pub fn hook_at(hooks: &Hooks, e: u32) -> Hook
+    ensures { result ≡ hook_at hooks.now e }
 {
-    u32_at(hooks, HOOK * (e as usize))
-}
-
-pub fn handler_at(hooks: &Hooks, e: u32) -> u32
-    ensures { result ≡ (hook_at hooks.now e).handler }
-{
-    u32_at(hooks, HOOK * (e as usize) + 1)
-}
-
-pub fn parameter_at(hooks: &Hooks, e: u32) -> u32
-    ensures { result ≡ (hook_at hooks.now e).parameter }
-{
-    u32_at(hooks, HOOK * (e as usize) + 2)
+    let at = HOOK * (e as usize);
+    Hook {
+        handle: item_or(hooks, at, 0),
+        handler: item_or(hooks, at + 1, 0),
+        parameter: item_or(hooks, at + 2, 0),
+    }
 }
 
 // A byte of the loaded record of a handle's function.
 fn loaded(records: &Records, handle: u32, at: u32) -> u32
     ensures { result ≡ record_byte records.now (handle - 1) at }
 {
-    record_byte(records, place(handle), at) as u32
+    u32::from(record_byte(records, place(handle), at))
 }
 
 // The loaded line of a function.
@@ -65,12 +66,8 @@ pub fn is_routed(records: &Records, handle: u32) -> bool
 }
 
 // Whether an entry is a hook on a line.
-pub fn is_on_line(records: &Records, hooks: &Hooks, e: u32, line: u32) -> bool
-    ensures { result ≡ on_line records.now line (hook_at hooks.now e) }
+pub fn is_on_line(records: &Records, hook: Hook, line: u32) -> bool
+    ensures { result ≡ on_line records.now line hook }
 {
-    let handle = handle_at(hooks, e);
-    if handle == 0 {
-        return false;
-    }
-    line_of(records, handle) == line
+    (hook.handle != 0) & (line_of(records, hook.handle) == line)
 }

@@ -1,3 +1,4 @@
 -- The laws that proofs here and above cite, and the rows.
 pub mod Numbers
+pub mod Made
 pub mod Rows

@@ -1,5 +1,5 @@
 -- The numbers of the hook array as those of its entries.
-use Prim.Native.Nat.{ℕ, ◌+◌, ◌*◌, ◌-◌, ◌/◌, ◌%◌, ◌<◌}
+use Prim.Native.Nat.{ℕ, ◌+◌, ◌*◌, ◌/◌, ◌%◌}
 use native.Mathlib.Omega.{arith}
 use mathlib.Core.Bool.{Bool, true, false, cond}
 use mathlib.Core.List.{List}
@@ -7,8 +7,7 @@ use mathlib.Core.Path.{◌≡◌, refl, ap}
 use lib.Dec.{eqb}
 use lib.ListN.{get_or}
 use borrow.Author.Tests.{eqb-true, eqb-false}
-use Rattle.board.specs.Layout.{hook_size}
-use Rattle.interrupt_array.specs.Hooks.{hook_at, hook_number, array_number}
+use Rattle.interrupt_array.specs.Hooks.{hook_at, array_number}
 
 -- number j of an array is the number of its entries there
 pub number_here : (l : List ℕ) (j : ℕ) → array_number (hook_at l) j ≡ get_or l j 0
@@ -22,16 +21,3 @@ number_here l j = by (eqb (j % 3) 0) (eqb (j % 3) 1) refl refl
         let y : j % 3 ≡ 0 → ⊥ = eqb-false (j % 3) 0 e in
         let z : j % 3 ≡ 1 → ⊥ = eqb-false (j % 3) 1 f in
         ap (λ i. get_or l i 0) (omega arith)
-
--- three numbers before it stands that of the entry before, and three numbers after it that of the entry after
-pub number_before : (l : List ℕ) (j : ℕ) → 0 < j / hook_size → hook_number (hook_at l (j / hook_size - 1)) (j % hook_size) ≡ get_or l (j - hook_size) 0
-number_before l j h =
-    let e : (j - 3) / 3 ≡ j / 3 - 1 = omega arith in
-    let r : (j - 3) % 3 ≡ j % 3 = omega arith in
-    rw (← e, ← r) (number_here l (j - 3))
-
-pub number_after : (l : List ℕ) (j : ℕ) → hook_number (hook_at l (j / hook_size + 1)) (j % hook_size) ≡ get_or l (j + hook_size) 0
-number_after l j =
-    let e : (j + 3) / 3 ≡ j / 3 + 1 = omega arith in
-    let r : (j + 3) % 3 ≡ j % 3 = omega arith in
-    rw (← e, ← r) (number_here l (j + 3))

@@ -2,7 +2,7 @@
 use Rattle.std.specs.Prelude.{ℕ, ◌+◌, ◌-◌, cond, eqb, ltb}
 use Rattle.interrupt_edit.specs.declared.change.Change.{Change}
 use Rattle.interrupt_edit.specs.declared.change.Change.TheVariants.{In, Out}
-use Rattle.interrupt_array.specs.Hooks.{Hook, hook}
+use Rattle.interrupt_array.specs.declared.hooks.Hook.{Hook}
 
 -- the hooks after a new one is put at a position, and after the one at a position is gone
 abbrev pub after_hook : (ℕ → Hook) → ℕ → Hook → ℕ → Hook
@@ -13,6 +13,5 @@ abbrev pub after_unhook : (ℕ → Hook) → ℕ → ℕ → Hook
 after_unhook old position e = cond (ltb e position) (old e) (old (e + 1))
 
 abbrev pub after_change : Change → (ℕ → Hook) → ℕ → Hook
-after_change (In position handle handler parameter) old =
-    after_hook old position (hook handle handler parameter)
+after_change (In position new) old = after_hook old position new
 after_change (Out position) old = after_unhook old position

@@ -7,7 +7,8 @@ use mathlib.Core.List.{List, [], ◌∷◌, ◌++◌, append-nil}
 use mathlib.Core.Path.{◌≡◌, refl, ◌∙◌, ap}
 use Rattle.board.specs.Layout.{functions_max}
 use Rattle.numbers.proofs.Tables.{table_get}
-use Rattle.interrupt_array.specs.Hooks.{Hook, hook_at, hooks_from, array_number, array_of, chosen}
+use Rattle.interrupt_array.specs.declared.hooks.Hook.{Hook}
+use Rattle.interrupt_array.specs.Hooks.{hook_at, hooks_from, array_number, array_of, chosen}
 
 -- an array that is made of entries has them
 pub array_at : (f : ℕ → Hook) (e : ℕ) → e < functions_max → hook_at (array_of f) e ≡ f e

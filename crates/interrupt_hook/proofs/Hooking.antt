@@ -5,15 +5,14 @@ use mathlib.Core.Bool.{Bool, true, false, cond, ◌&&◌, not, true≢false}
 use mathlib.Core.List.{List, [], ◌∷◌, ◌++◌, append-nil}
 use mathlib.Core.Path.{◌≡◌, refl, sym, ◌∙◌, ap}
 use lib.Dec.{eqb, leb}
-use lib.IntN.{negsuc}
 use borrow.Author.Tests.{eq-eqb, ne_eqb, eqb-true, eqb-false, le-leb}
 use Rattle.board.specs.Handles.{is_handle}
 use Rattle.board.specs.Layout.{functions_max}
 use Rattle.board.specs.Statuses.{successful}
-use Rattle.board.specs.declared.status.Status.{Status}
 use Rattle.board.proofs.Handles.{handle_place}
 use Rattle.numbers.proofs.Tests.{both_true}
-use Rattle.interrupt_array.specs.Hooks.{Hook, hook, is_hook, hook_at, hooks_from, chosen, on_line, chain_of, line_of, pin_of, is_routed}
+use Rattle.interrupt_array.specs.declared.hooks.Hook.{Hook}
+use Rattle.interrupt_array.specs.Hooks.{hook, is_hook, hook_at, hooks_from, chosen, on_line, chain_of, line_of, pin_of, is_routed}
 use Rattle.interrupt_hook.specs.Chain.{up_to_line, position_for, is_hooked, is_free, hooked, hook_outcome, hook_checks}
 use Rattle.interrupt_hook.specs.Meaning.{GoesLast}
 use Rattle.interrupt_hook.proofs.Entries.{chosen_append, chosen_none, chosen_in, chosen_out, chosen_last_out}
@@ -92,18 +91,14 @@ module _ (records : List ℕ) where
         (λ e. rest_none line (sym (eqb-true line own (sym (new_on line new n) ∙ e))))
         ∙ rw (new_on line new n, ← but_last (hook_at hooks) position position_room)
 
--- a negative number is no success
-pub no_success : (n : ℕ) → ◌≡◌ {A = Status} (record { 0 = negsuc n }) successful → ⊥
-no_success n e = let z : ◌≡◌ {A = ℕ} 0 1 = cc (ap (λ (s : Status). s.0) e) in omega arith
-
 -- a hook is accepted where its function is there and no check fails
 pub accepted : (good routed free : Bool) (after before : List ℕ)
     → (hook_checks good routed free (hook_outcome successful after) (λ s. hook_outcome s before)).status ≡ successful
     → (good ≡ true) × ((free ≡ true) × ((hook_checks good routed free (hook_outcome successful after) (λ s. hook_outcome s before)).hooks ≡ after))
 accepted true true true after before e = (refl, (refl, refl))
-accepted true true false after before e = absurd (no_success 5 e)
-accepted true false free after before e = absurd (no_success 7 e)
-accepted false routed free after before e = absurd (no_success 8 e)
+accepted true true false after before e = absurd cc
+accepted true false free after before e = absurd cc
+accepted false routed free after before e = absurd cc
 
 -- THEOREM: an accepted hook goes last on its line, and every other chain stays
 pub goes_last : GoesLast

@@ -7,7 +7,8 @@ use mathlib.Core.List.{List, [], ◌∷◌, ◌++◌}
 use mathlib.Core.Path.{◌≡◌, refl, ◌∙◌, ap}
 use borrow.Author.Tests.{lt-ltb, le-ltb, eq-eqb, ne_eqb}
 use Rattle.board.specs.Layout.{functions_max}
-use Rattle.interrupt_array.specs.Hooks.{Hook, hook_at, hooks_from, hooks_of, array_of}
+use Rattle.interrupt_array.specs.declared.hooks.Hook.{Hook}
+use Rattle.interrupt_array.specs.Hooks.{hook_at, hooks_from, hooks_of, array_of}
 use Rattle.interrupt_edit.specs.Changes.{after_hook, after_unhook}
 use Rattle.interrupt_hook.proofs.Entries.{array_at, entries_same, entries_split}
 

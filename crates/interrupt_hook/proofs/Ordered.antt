@@ -9,10 +9,11 @@ use lib.Dec.{eqb}
 use lib.ListN.{length}
 use Rattle.board.specs.Handles.{is_handle}
 use Rattle.board.specs.Layout.{functions_max, hook_size}
-use Rattle.board.specs.Statuses.{successful}
+use Rattle.board.specs.Statuses.{number_of, successful}
 use Rattle.board.proofs.Handles.{handle_place}
 use Rattle.numbers.proofs.Tables.{table_length}
-use Rattle.interrupt_array.specs.Hooks.{Hook, hooks_from, chosen, on_line, chain_of, line_of, pin_of, is_routed}
+use Rattle.interrupt_array.specs.declared.hooks.Hook.{Hook}
+use Rattle.interrupt_array.specs.Hooks.{hooks_from, chosen, on_line, chain_of, line_of, pin_of, is_routed}
 use Rattle.interrupt_hook.specs.Chain.{HookOutcome, hook_outcome, is_hooked, is_free, hooked, unhooked, hook_checks, unhook_checks}
 use Rattle.interrupt_hook.specs.Meaning.{without, HookCall, performed, hooking, unhooking, cleared, is_done, taken, array_after, in_order, HookingOrder}
 use Rattle.interrupt_hook.proofs.Entries.{chosen_append, chosen_in, chosen_out}
@@ -21,7 +22,7 @@ use Rattle.interrupt_hook.proofs.Unhooking.{chosen_without, goes_out}
 
 -- a call is accepted, or leaves the array
 abbrev Outcome : HookOutcome → List ℕ → Type 0
-Outcome c before = ((is_done c.status.0 ≡ true) × (c.status ≡ successful)) ⊎ ((is_done c.status.0 ≡ false) × (c.hooks ≡ before))
+Outcome c before = ((is_done (number_of c.status) ≡ true) × (c.status ≡ successful)) ⊎ ((is_done (number_of c.status) ≡ false) × (c.hooks ≡ before))
 
 hook_outcome_lem : (good routed free : Bool) (after before : List ℕ)
     → Outcome (hook_checks good routed free (hook_outcome successful after) (λ s. hook_outcome s before)) before
@@ -86,7 +87,7 @@ module _ (header records : List ℕ) where
       unhook_size false there = s.size
 
   step_stands : (hooks : List ℕ) (hs : List Hook) (c : HookCall) → Stands hooks hs
-      → Stands (performed header records hooks c).hooks (cond (is_done (performed header records hooks c).status.0) (taken c hs) hs)
+      → Stands (performed header records hooks c).hooks (cond (is_done (number_of (performed header records hooks c).status)) (taken c hs) hs)
   step_stands hooks hs (hooking h) s =
       ⊎_elim (λ d. rw d.0 (hook_stands hooks hs h s d.1)) (λ d. rw (d.0, d.1) s)
       (hook_outcome_lem (is_handle header h.handle) (is_routed (pin_of records h.handle) (line_of records h.handle)) (is_free hooks h.handle) (hooked records hooks h) hooks)

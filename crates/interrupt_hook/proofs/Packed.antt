@@ -12,7 +12,8 @@ use lib.Seq.{get_or-append-add, ext_get_or}
 use borrow.Author.Tests.{ne_eqb, lt-ltb, le-ltb}
 use Rattle.board.specs.Layout.{functions_max, hook_size}
 use Rattle.numbers.proofs.Tables.{table_length, table_get}
-use Rattle.interrupt_array.specs.Hooks.{Hook, no_hook, hook_at, hooks_from, hooks_of, array_number, array_of, line_of, chosen, on_line, chain_of, hook_numbers, packed}
+use Rattle.interrupt_array.specs.declared.hooks.Hook.{Hook}
+use Rattle.interrupt_array.specs.Hooks.{no_hook, hook_at, hooks_from, hooks_of, array_number, array_of, line_of, chosen, on_line, chain_of, hook_numbers, packed}
 use Rattle.interrupt_hook.specs.Chain.{first_from, is_hooked, is_free}
 use Rattle.interrupt_hook.specs.Meaning.{EveryHook, is_among}
 use Rattle.interrupt_edit.proofs.Numbers.{number_here}

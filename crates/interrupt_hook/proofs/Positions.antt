@@ -4,7 +4,9 @@ use native.Mathlib.Omega.{arith}
 use mathlib.Core.Bool.{Bool, true, false, cond, true≢false}
 use mathlib.Core.Path.{◌≡◌, refl, sym, ◌∙◌, ap}
 use lib.Dec.{ltb, eqb}
-use borrow.Author.Tests.{ltb-true, ltb-false, eqb-true, eqb-false}
+use borrow.Author.Tests.{ltb-true, ltb-false, lt-ltb, le-ltb, eqb-true, eqb-false}
+use Rattle.std.specs.Prelude.{Option, Some, None}
+use Rattle.std.specs.Option.{MatchOption}
 use Rattle.interrupt_hook.specs.Chain.{past_last, first_from}
 
 module _ (t : ℕ → Bool) where
@@ -52,16 +54,6 @@ module _ (t : ℕ → Bool) where
       let high : k < past_last t n → ⊥ = λ h. true≢false (sym (m.here (omega arith)) ∙ l.after (past_last t n - 1) (omega arith) (omega (arith, m.room))) in
       omega arith
 
-  -- a turn of the walk up, at position i, where one position and the rest are left
-  module _ (i left rest : ℕ) (more : left ≡ suc rest) where
-    pub first_here : t i ≡ true → first_from t i left ≡ i
-    unfolding first_from
-    first_here e = rw (more, e)
-
-    pub first_on : t i ≡ false → first_from t i left ≡ first_from t (i + 1) rest
-    unfolding first_from
-    first_on e = rw (more, e)
-
   -- p is the first of n positions from i on at which the test holds, or the position after them
   pub record First (i n p : ℕ) : Type 0 where
     pub low : i ≤ p
@@ -95,3 +87,14 @@ module _ (t : ℕ → Bool) where
       let low : first_from t i n < k → ⊥ = λ h. true≢false (sym (g.here (omega (arith, f.high))) ∙ f.before (first_from t i n) g.low h) in
       let high : k < first_from t i n → ⊥ = λ h. true≢false (sym (f.here (omega (arith, g.high))) ∙ g.before k f.low h) in
       omega arith
+
+  -- what `find` says of a range from 0 on is that the first such position is found
+  pub find_first : (n : ℕ) (r : Option ℕ)
+      → MatchOption r ((k : ℕ) → 0 ≤ k → k < n → t k ≡ false) (λ i. (0 ≤ i) × (i < n) × (t i ≡ true) × ((k : ℕ) → 0 ≤ k → k < i → t k ≡ false))
+      → r ≡ cond (ltb (first_from t 0 n) n) (Some (first_from t 0 n)) None
+  find_first n None m =
+      let e : first_from t 0 n ≡ n = first_is 0 n n (record { low = omega arith; high = omega arith; here = λ h. absurd (omega arith); before = λ j l h. m j l h }) in
+      rw (e, le-ltb n n (omega arith))
+  find_first n (Some i) m =
+      let e : first_from t 0 n ≡ i = first_is 0 n i (record { low = omega arith; high = omega (arith, m.1); here = λ h. m.2; before = λ j l h. m.3 j l h }) in
+      rw (e, lt-ltb i n m.1)

@@ -9,7 +9,8 @@ use lib.ListN.{length, get_or, length-append, get_or-append}
 use lib.Seq.{get_or-append-add, get_or-append_seam}
 use borrow.Author.Tests.{eq-eqb, ne_eqb, le-leb, lt-leb, ltb-true, ltb-false, eqb-true, eqb-false}
 use Rattle.board.specs.Layout.{functions_max}
-use Rattle.interrupt_array.specs.Hooks.{Hook, no_hook, is_hook, hook_at, line_of, packed}
+use Rattle.interrupt_array.specs.declared.hooks.Hook.{Hook}
+use Rattle.interrupt_array.specs.Hooks.{no_hook, is_hook, hook_at, line_of, packed}
 use Rattle.interrupt_edit.specs.Changes.{after_hook, after_unhook}
 use Rattle.interrupt_hook.specs.Chain.{up_to_line, position_for, position_of, hooked, unhooked}
 use Rattle.interrupt_hook.specs.Meaning.{EveryHook}

@@ -9,7 +9,8 @@ use lib.Dec.{eqb}
 use lib.ListN.{length}
 use borrow.Author.Tests.{eqb-true, eqb-false}
 use Rattle.numbers.proofs.Tests.{either_false}
-use Rattle.interrupt_array.specs.Hooks.{Hook, hook}
+use Rattle.interrupt_array.specs.declared.hooks.Hook.{Hook}
+use Rattle.interrupt_array.specs.Hooks.{hook}
 use Rattle.interrupt_hook.specs.Meaning.{EveryHook, is_among, without}
 
 -- each handle at most once

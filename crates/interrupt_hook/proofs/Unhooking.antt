@@ -10,13 +10,14 @@ use borrow.Author.Tests.{eq-eqb, eqb-true, ltb-true}
 use Rattle.board.specs.Handles.{is_handle}
 use Rattle.board.specs.Layout.{functions_max, hook_size}
 use Rattle.board.specs.Statuses.{successful}
-use Rattle.interrupt_array.specs.Hooks.{Hook, hook_at, hooks_from, chosen, on_line, chain_of}
+use Rattle.interrupt_array.specs.declared.hooks.Hook.{Hook}
+use Rattle.interrupt_array.specs.Hooks.{hook_at, hooks_from, chosen, on_line, chain_of}
 use Rattle.interrupt_hook.specs.Chain.{position_of, is_hooked, unhooked, hook_outcome, unhook_checks}
 use Rattle.interrupt_hook.specs.Meaning.{EveryHook, without, GoesOut}
 use Rattle.interrupt_hook.proofs.Entries.{chosen_append, chosen_in, chosen_out, chosen_last_out}
 use Rattle.interrupt_hook.proofs.Positions.{First, first_from_lem}
 use Rattle.interrupt_hook.proofs.Moves.{around, unhooked_entries}
-use Rattle.interrupt_hook.proofs.Hooking.{none_on, no_success}
+use Rattle.interrupt_hook.proofs.Hooking.{none_on}
 
 every_entries : (P : Hook → Type 0) (i n : ℕ) (f : ℕ → Hook) → ((j : ℕ) → i ≤ j → j < i + n → P (f j)) → EveryHook P (hooks_from i n f)
 unfolding hooks_from
@@ -113,8 +114,8 @@ accepted : (good hooked : Bool) (after before : List ℕ)
     → (unhook_checks good hooked (hook_outcome successful after) (λ s. hook_outcome s before)).status ≡ successful
     → (hooked ≡ true) × ((unhook_checks good hooked (hook_outcome successful after) (λ s. hook_outcome s before)).hooks ≡ after)
 accepted true true after before e = (refl, refl)
-accepted true false after before e = absurd (no_success 7 e)
-accepted false hooked after before e = absurd (no_success 8 e)
+accepted true false after before e = absurd cc
+accepted false hooked after before e = absurd cc
 
 -- THEOREM: an accepted unhook takes the hook of its handle from its chain, and the others keep their order
 pub goes_out : GoesOut

@@ -4,10 +4,9 @@
 use Rattle.std.specs.Prelude.{ℕ, zero, suc, ◌+◌, ◌-◌, Bool, cond, ◌&&◌, not, List, eqb, leb, ltb}
 use Rattle.board.specs.Handles.{is_handle}
 use Rattle.board.specs.Layout.{functions_max}
-use Rattle.board.specs.Statuses.{successful, set_failed, general_error, bad_handle}
-use Rattle.board.specs.declared.status.Status.{Status}
+use Rattle.board.specs.Statuses.{Status, successful, set_failed, general_error, bad_handle}
+use Rattle.interrupt_array.specs.declared.hooks.Hook.{Hook}
 use Rattle.interrupt_array.specs.Hooks.{
-  Hook,
   hook,
   is_hook,
   hook_at,

@@ -1,8 +1,9 @@
 -- What hooking and unhooking mean, without the proofs: document 01, "Chains and marks".
 use Rattle.std.specs.Prelude.{ℕ, zero, suc, ◌*◌, Bool, true, false, cond, ◌||◌, List, [], ◌∷◌, ◌++◌, ◌≡◌, eqb, ℤ, pos, negsuc, length, replicate}
 use Rattle.board.specs.Layout.{functions_max, hook_size}
-use Rattle.board.specs.Statuses.{successful}
-use Rattle.interrupt_array.specs.Hooks.{Hook, hook, line_of, chosen, on_line, chain_of}
+use Rattle.board.specs.Statuses.{number_of, successful}
+use Rattle.interrupt_array.specs.declared.hooks.Hook.{Hook}
+use Rattle.interrupt_array.specs.Hooks.{hook, line_of, chosen, on_line, chain_of}
 use Rattle.interrupt_hook.specs.Chain.{HookOutcome, hook_interrupt, unhook_interrupt}
 
 -- every hook of a list has a property
@@ -74,7 +75,7 @@ unfoldable pub in_order : List ℕ → List ℕ → List ℕ → List HookCall �
 in_order header records hooks [] hs = hs
 in_order header records hooks (c ∷ cs) hs =
     let t = performed header records hooks c in
-    in_order header records t.hooks cs (cond (is_done t.status.0) (taken c hs) hs)
+    in_order header records t.hooks cs (cond (is_done (number_of t.status)) (taken c hs) hs)
 
 -- THE CHAIN OF A LINE, and so its listing, is the hooked functions of that line in hooking order,
 -- after any hooks and unhooks from the cleared array on

@@ -13,53 +13,45 @@ ghost use Rattle.interrupt_hook.specs.Chain.{
 use crate::position::{position_for, position_of};
 use board::handle::is_handle;
 use board::layout::{FUNCTIONS, Header, Hooks, Records};
-use board::status::Status;
-use interrupt_array::hooks::{handle_at, is_routed, line_of};
+use board::status::{CallRefusal, Status};
+use interrupt_array::hooks::{Hook, hook_at, is_routed, line_of};
 use interrupt_edit::change::{Change, apply};
+
+// The last entry of the array.
+const LAST: u32 = FUNCTIONS as u32 - 1;
 
 // Whether a function has no hook yet, and there is room for one more: there always is where each
 // function has one hook at most.
 fn is_free(hooks: &Hooks, handle: u32) -> bool
     ensures { result ≡ is_free hooks.now handle }
 {
-    let most = FUNCTIONS as u32;
-    let hooked = position_of(hooks, handle) < most;
-    !hooked & (handle_at(hooks, most - 1) == 0)
+    position_of(hooks, handle).is_none() & (hook_at(hooks, LAST).handle == 0)
 }
 
-// Puts a handler and its parameter last on the chain of a function's line.
-pub fn hook_interrupt(
-    header: &Header,
-    records: &Records,
-    hooks: &mut Hooks,
-    handle: u32,
-    handler: u32,
-    parameter: u32,
-) -> Status
+// Puts a hook last on the chain of its function's line.
+pub fn hook_interrupt(header: &Header, records: &Records, hooks: &mut Hooks, hook: Hook) -> Status
     ensures { hook_outcome result hooks.new
         ≡ hook_interrupt header.now records.now hooks.old
-        handle handler parameter }
+        hook.handle hook.handler hook.parameter }
 {
-    if !is_handle(header, handle) {
-        return Status::BAD_HANDLE;
+    if !is_handle(header, hook.handle) {
+        return Err(CallRefusal::BadHandle);
     }
-    let routed = is_routed(records, handle);
-    let free = is_free(hooks, handle);
-    if !routed {
-        return Status::GENERAL_ERROR;
+    if !is_routed(records, hook.handle) {
+        return Err(CallRefusal::GeneralError);
     }
-    if !free {
-        return Status::SET_FAILED;
+    if !is_free(hooks, hook.handle) {
+        return Err(CallRefusal::SetFailed);
     }
-    let position = position_for(records, hooks, line_of(records, handle));
-    let change = Change::In {
-        position: position as usize,
-        handle: handle,
-        handler: handler,
-        parameter: parameter,
-    };
-    apply(hooks, change);
-    Status::SUCCESSFUL
+    let position = position_for(records, hooks, line_of(records, hook.handle)) as usize;
+    apply(
+        hooks,
+        Change::In {
+            position: position,
+            hook: hook,
+        },
+    );
+    Ok(())
 }
 
 // Takes a function's hook from its chain.
@@ -68,17 +60,9 @@ pub fn unhook_interrupt(header: &Header, hooks: &mut Hooks, handle: u32) -> Stat
         ≡ unhook_interrupt header.now hooks.old handle }
 {
     if !is_handle(header, handle) {
-        return Status::BAD_HANDLE;
+        return Err(CallRefusal::BadHandle);
     }
-    let position = position_of(hooks, handle);
-    if position < FUNCTIONS as u32 {
-        apply(
-            hooks,
-            Change::Out {
-                position: position as usize,
-            },
-        );
-        return Status::SUCCESSFUL;
-    }
-    Status::GENERAL_ERROR
+    let position = position_of(hooks, handle).ok_or(CallRefusal::GeneralError)? as usize;
+    apply(hooks, Change::Out { position: position });
+    Ok(())
 }

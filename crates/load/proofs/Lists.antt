@@ -3,14 +3,10 @@ use Prim.Native.Nat.{ℕ, zero, suc, ◌+◌, ◌*◌, ◌-◌, ◌/◌, ◌%◌
 use native.Mathlib.Omega.{arith}
 use mathlib.Core.Path.{◌≡◌, refl, ◌∙◌, ap}
 use mathlib.Core.List.{List, [], ◌∷◌, ◌++◌}
-use lib.ListN.{length, get_or, take, drop, replicate}
+use lib.ListN.{length, get_or, drop, replicate}
 use Rattle.board.specs.Layout.{functions_max, record_size, entries_at, entry_size, bases, windows_max, exponent}
-use Rattle.image_layout.specs.Image.{count_of, records_range, records_of}
-use Rattle.image_layout.specs.declared.layout.Range.{Range}
-use Rattle.image_layout.proofs.Ranges.{part, range_part}
 use Rattle.load.specs.Load.{padded}
 use Rattle.cell_layout.specs.Cells.{total}
-use Rattle.image_writer.proofs.Lists.{copied}
 use Rattle.cell_layout.proofs.Ranges.{before_same}
 
 pub drop_zeros : (n m : ℕ) → drop n (replicate {A = ℕ} m 0) ≡ replicate (m - n) 0
@@ -29,13 +25,6 @@ zeros_after (x ∷ l) n (suc j) = zeros_after l n j
 -- the records of an image, copied over zeros, are padded
 pub copied_padded : (src out : List ℕ) → out ≡ src ++ drop (length src) (replicate (functions_max * record_size) 0) → out ≡ padded src
 copied_padded src out e = e ∙ ap (λ (l : List ℕ). src ++ l) (drop_zeros (length src) (functions_max * record_size))
-
--- the part of an image in the range of its records, copied over zeros
-pub records_copied : (r : Range) (image out : List ℕ) → r ≡ records_range (length image) (count_of image)
-    → out ≡ take (length (part r image)) (part r image) ++ drop (length (part r image)) (replicate (functions_max * record_size) 0)
-    → out ≡ padded (records_of image)
-records_copied r image out c e =
-    copied_padded (part r image) out (copied (part r image) _ out e) ∙ ap padded (range_part r image c)
 
 -- zeros after the records add no cells
 pub padded_total : (records : List ℕ) → total (exponent (padded records)) ≡ total (exponent records)

@@ -18,14 +18,13 @@ use Rattle.numbers.proofs.Numbers.{big_below, big_bytes_lem, bytes_big}
 use Rattle.numbers.proofs.Tables.{table_length}
 use Rattle.cell_layout.specs.Cells.{total, offsets_of}
 use Rattle.image_layout.specs.Image.{image_record, image_size, back, distance_of, count_of, edition_of, sum_of, records_of, sum, trailer}
-use Rattle.image_refusals.specs.Refusals.{accepted, is_accepted}
+use Rattle.image_refusals.specs.Refusals.{Verdict, accepted, is_accepted}
 use Rattle.image_refusals.specs.Steps.{cells_verdict}
 use Rattle.image_check.specs.Check.{facts_of, checked}
 use Rattle.reset.specs.Reset.{restarted}
 use Rattle.load.specs.Load.{LoadOutcome, load_outcome, load, padded, installed}
 use Rattle.image_writer.specs.Write.{WriterOutcome, write_image, writer_outcome}
 use Rattle.load.specs.Meaning.{rewritten, RoundTrip, WrittenBack, ImageAlone}
-use Rattle.image_refusals.specs.declared.verdict.Verdict.{Verdict}
 use Rattle.image_writer.proofs.Lists.{trailer_length}
 use Rattle.image_check.proofs.Accepted.{Fine, Accepted, accepted_image, accepted_elsewhere, records_length}
 
@@ -163,7 +162,7 @@ installed_records image cells = refl
 
 -- the writer's answer of n loaded records, where the output has the room
 writes : (n : ℕ) (r out : List ℕ) → 0 < n → n ≤ functions_max → length r ≡ image_record * n → image_size n ≤ length out
-    → write_image (header_of n) (padded r) out ≡ writer_outcome 0 ((r ++ trailer n (sum r)) ++ drop (image_size n) out)
+    → write_image (header_of n) (padded r) out ≡ writer_outcome accepted ((r ++ trailer n (sum r)) ++ drop (image_size n) out)
 unfolding write_image
 writes n r out some few long room =
     let c : function_count (header_of n) ≡ n = omega arith in
@@ -175,7 +174,7 @@ again : List ℕ → List ℕ
 again image = records_of image ++ trailer (count_of image) (sum (records_of image))
 
 rewritten_is : (p : Parts) (image out : List ℕ) → (load p image).verdict ≡ accepted → image_size (count_of image) ≤ length out
-    → rewritten p image out ≡ writer_outcome 0 (again image ++ drop (image_size (count_of image)) out)
+    → rewritten p image out ≡ writer_outcome accepted (again image ++ drop (image_size (count_of image)) out)
 unfolding again
 rewritten_is p image out e room =
     let k = accepted_image image (length p.cells) (load_accepted p image e) in
@@ -196,7 +195,7 @@ round_trip p image out e room =
     let k = accepted_image image cells (load_accepted p image e) in
     let s = again_says image cells k in
     record {
-      number = ap (λ (x : WriterOutcome). x.number) w;
+      verdict = ap (λ (x : WriterOutcome). x.verdict) w;
       loads = λ q. ap (λ (x : WriterOutcome). load q (take n x.out)) w
           ∙ ap (load q) (take_at (again image) (drop n out) n s.size)
           ∙ loads_alike q image (again image) cells k (accepted_again image (again image) cells k s) s.count s.records;

@@ -8,8 +8,7 @@ use Rattle.cell_layout.specs.Cells.{offsets_of}
 use Rattle.reset.specs.Reset.{restarted}
 use Rattle.image_layout.specs.Image.{count_of, records_of}
 use Rattle.image_check.specs.Check.{checked_any_length, checked}
-use Rattle.image_refusals.specs.Refusals.{is_accepted}
-use Rattle.image_refusals.specs.declared.verdict.Verdict.{Verdict}
+use Rattle.image_refusals.specs.Refusals.{Verdict, is_accepted}
 
 -- the loaded records, zeros after the last
 abbrev pub padded : List ℕ → List ℕ

@@ -14,7 +14,7 @@ rewritten p image out = write_image (load p image).parts.header (load p image).p
 -- a loaded board is written, and the image at the front of the output loads as the first one does:
 -- on every board the same verdict and the same parts
 pub record SameBoard (p : Parts) (image out : List ℕ) : Type 0 where
-  pub number : (rewritten p image out).number ≡ 0
+  pub verdict : (rewritten p image out).verdict ≡ accepted
   pub loads : (q : Parts)
       → load q (take (image_size (count_of image)) (rewritten p image out).out) ≡ load q image
 

@@ -2,6 +2,9 @@
 -- a load leaves of a board on which nothing was zero, and that a refused one leaves all.
 use Rattle.std.specs.Prelude.{ℕ, ◌<◌, ◌≤◌, List, [], ◌∷◌, ◌++◌, map, ◌≡◌, pos, length, get_or, replicate}
 use Rattle.board.specs.Parts.{Parts, parts}
+use Rattle.image_refusals.specs.Refusals.{refused, verdict_number}
+use Rattle.image_refusals.specs.declared.verdict.ImageRefusal.TheVariants.{Length}
+use Rattle.image_refusals.specs.Rows.{handed}
 use Rattle.image_check.specs.Rows.{verdict, port_record, one_record}
 use Rattle.load.specs.Load.{load_outcome, load, load_any_length}
 
@@ -29,14 +32,16 @@ pub record LoadRows : Type 0 where
       ∷ (0 ∷ replicate 96 4) ∷ replicate 48 0 ∷ replicate 32 0
       ∷ (0 ∷ 0 ∷ 0 ∷ 0 ∷ 7 ∷ 7 ∷ []) ∷ []
   -- 8 with one cell less than the windows need, 0 with as many
-  pub verdicts : map (λ n. (load (board n) image).verdict) (3 ∷ 4 ∷ [])
+  pub verdicts : map (λ n. handed (load (board n) image).verdict) (3 ∷ 4 ∷ [])
       ≡ verdict 8 0 ∷ verdict 0 0 ∷ []
   -- 1 for every image that is longer than 65,536 bytes
   pub too_long : (p : Parts) (image : List ℕ) → 65536 < length image
-      → load p image ≡ load_outcome (verdict 1 0) p
+      → load p image ≡ load_outcome (refused Length) p
+  pub too_long_number : (p : Parts) (image : List ℕ) → 65536 < length image
+      → handed (load p image).verdict ≡ verdict 1 0
   -- the old board stays
   pub refused_stays : (p : Parts) (image : List ℕ)
-      → ((load p image).verdict.number ≡ pos 0 → ⊥) → (load p image).parts ≡ p
+      → (verdict_number (load p image).verdict ≡ pos 0 → ⊥) → (load p image).parts ≡ p
   -- an image that comes in portions loads as any other of so many bytes
   pub portions : (p : Parts) (image : List ℕ) → length image ≤ 65536
       → load_any_length p image ≡ load p image

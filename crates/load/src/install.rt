@@ -16,11 +16,9 @@ fn copy_records(image: &[u8], count: u32, records: &mut Records)
         × ((count ≤ functions_max) × (image_size count ≤ length image.now)) }
     ensures { records.new ≡ padded (records_of image.now) }
 {
-    *records = [0u8; FUNCTIONS * RECORD];
-    let range = records_range(image.len(), count);
-    let from = range.from;
-    let to = range.to;
-    records[..to - from].copy_from_slice(&image[from..to]);
+    *records = [0; FUNCTIONS * RECORD];
+    let loaded = &image[records_range(image.len(), count)];
+    records[..loaded.len()].copy_from_slice(loaded);
 }
 
 // Header, records and offsets of an accepted image; all else follows from them.

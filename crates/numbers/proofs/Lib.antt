@@ -3,5 +3,4 @@ pub mod Tests
 pub mod Tables
 pub mod Numbers
 pub mod Stores
-pub mod Signed
 pub mod Rows

@@ -75,11 +75,18 @@ pub fn is_multiple_by_shift(n: u32, width: Width) -> bool
     n % bytes_by_shift(width) == 0
 }
 
+// The item at a position of a lent slice, another past its end.
+pub fn item_or<T: Copy>(items: &[T], at: usize, other: T) -> T
+    ensures { result ≡ get_or items.now at other }
+{
+    if at < items.len() { items[at] } else { other }
+}
+
 // The byte at a position, 0 past the end.
 pub fn byte_at(s: &[u8], at: usize) -> u8
     ensures { result ≡ byte_at s.now at }
 {
-    if at < s.len() { s[at] } else { 0 }
+    item_or(s, at, 0)
 }
 
 // Stores a byte at a position; past the end nothing is stored.
@@ -89,13 +96,6 @@ pub fn put_byte(s: &mut [u8], at: usize, b: u8)
     if at < s.len() {
         s[at] = b;
     }
-}
-
-// A byte as a number, which is below 256.
-pub fn wide(b: u8) -> u32
-    ensures { (result ≡ b) × (result < 256) }
-{
-    b as u32
 }
 
 // The byte i after a position, 0 past the end.
@@ -112,7 +112,7 @@ fn byte_after(s: &[u8], at: usize, i: u8) -> u8
 fn number(a: u8, b: u8, c: u8, d: u8) -> u32
     ensures { result ≡ a % 256 + 256 * (b % 256 + 256 * (c % 256 + 256 * (d % 256))) }
 {
-    wide(a) + 256 * wide(b) + 65536 * wide(c) + 16777216 * wide(d)
+    u32::from_le_bytes([a, b, c, d])
 }
 
 // The number at a position, least byte first.
@@ -163,27 +163,11 @@ pub fn put_big(s: &mut [u8], at: usize, width: Width, value: u32)
     }
     let w = bytes(width);
     let mut rest = reversed(value, width);
-    let mut i = 0;
     // Invariant: storing the bytes from i on, rest's digits, gives what storing all of them gives.
-    while i < w {
+    for i in 0..w {
         put_byte(s, at + i as usize, (rest % 256) as u8);
-        rest = rest / 256;
-        i += 1;
+        rest /= 256;
     }
-}
-
-// The number at a position of a lent array, 0 past the end.
-pub fn u32_at(s: &[u32], at: usize) -> u32
-    ensures { result ≡ get_or s.now at 0 }
-{
-    if at < s.len() { s[at] } else { 0 }
-}
-
-// The same of numbers of 64 bits.
-pub fn u64_at(s: &[u64], at: usize) -> u64
-    ensures { result ≡ get_or s.now at 0 }
-{
-    if at < s.len() { s[at] } else { 0 }
 }
 
 // 2 to the power k, and 0 for k past 31.
@@ -197,9 +181,5 @@ pub fn power(k: u32) -> u64
 pub fn bits(n: i32) -> u32
     ensures { result ≡ bits n }
 {
-    if n < 0 {
-        let m = -1 - n;
-        return 4294967295 - m as u32;
-    }
-    n as u32
+    n.cast_unsigned()
 }

@@ -3,7 +3,7 @@
 -- answers are worked out from its bytes.
 use Rattle.std.specs.Prelude.{ℕ, List, [], ◌∷◌, ◌++◌, map, ◌≡◌, pos, length, replicate}
 use Rattle.numbers.specs.Numbers.{big_bytes}
-use Rattle.board.specs.Statuses.{successful, device_not_found, general_error}
+use Rattle.board.specs.Statuses.{number_of, successful, device_not_found, general_error}
 use Rattle.numbers.specs.declared.number.Width.TheVariants.{Byte, Long}
 use Rattle.call_edition.specs.Edition.{in_later}
 use Rattle.data_cells.specs.Cells.{cells_value}
@@ -61,15 +61,15 @@ abbrev pub found_handle : ℕ → Answer
 found_handle handle = of_search (pos handle)
 
 abbrev pub value : ℕ → Answer
-value v = answer successful.0 (one v)
+value v = answer (number_of successful) (one v)
 
 abbrev pub window_answer : ℕ → ℕ → ℕ → ℕ → ℕ → ℕ → Answer
 window_answer space start length handle base contested =
-    answer successful.0 (space ∷ start ∷ length ∷ handle ∷ base ∷ contested ∷ [])
+    answer (number_of successful) (space ∷ start ∷ length ∷ handle ∷ base ∷ contested ∷ [])
 
 -- a hook listed; the bytes of a descriptor: next (20), flags, start, length, and both offsets 0
 abbrev pub chained : ℕ → ℕ → ℕ → Answer
-chained handle handler parameter = of_chain successful.0 (handle ∷ handler ∷ parameter ∷ [])
+chained handle handler parameter = of_chain (number_of successful) (handle ∷ handler ∷ parameter ∷ [])
 
 abbrev pub descriptor : ℕ → ℕ → ℕ → List ℕ
 descriptor flags start length =

@@ -1,7 +1,7 @@
 -- Idle buses, and the row of the table that refuses each: document 01, "What the promises say".
 -- Each is the reference machine but for one rule, so that the row fails for that rule alone.
 use Rattle.std.specs.Prelude.{ℕ, ◌+◌, cond, List, [], ◌∷◌, ◌≡◌, ltb, ℤ, pos}
-use Rattle.board.specs.Statuses.{successful, device_not_found}
+use Rattle.board.specs.Statuses.{number_of, successful, device_not_found}
 use Rattle.call.specs.declared.call.Call.{Call}
 use Rattle.call.specs.declared.call.Access.{Access}
 use Rattle.call.specs.declared.call.Access.TheVariants.{Read, FastRead, Write}
@@ -136,7 +136,7 @@ abbrev pub lists : ℕ → Rule
 lists m n b c t =
     by_kind (kind_of c.call) t t t
     (λ k. reference_outcome
-    (cond (ltb k m) (answer successful.0 t.answer.values) (of_status device_not_found))
+    (cond (ltb k m) (answer (number_of successful) t.answer.values) (of_status device_not_found))
     t.reference t.own)
     t
 

@@ -14,7 +14,7 @@ use Rattle.board.specs.Handles.{header_of}
 use Rattle.numbers.specs.Tables.{table_from, table}
 use Rattle.numbers.proofs.Tables.{table_length}
 use Rattle.data_cells.specs.Cells.{cells_after}
-use Rattle.data_cells.specs.declared.target.CellTarget.TheVariants.{At}
+use Rattle.std.specs.Prelude.{Ok}
 use Rattle.data_cells.proofs.Cells.{only_its_cells}
 use Rattle.cell_layout.specs.Cells.{zeroed}
 use Rattle.reset.proofs.Zeroed.{zeroed_length, zeroed_past}
@@ -70,7 +70,7 @@ outside : (at w j : ℕ) → (leb at j && ltb j (at + w)) ≡ false → (j < at)
 outside at w j h =
     if_either (leb at j) (λ e. inr (ltb-false j (at + w) (rw e at h))) (λ e. inl (leb-false at j e))
 
-pub written_alike : (order w at value : ℕ) (cells : List ℕ) → EqualOutside (accessed w (At at order)) (cells_after order w at value cells) cells
+pub written_alike : (order w at value : ℕ) (cells : List ℕ) → EqualOutside (accessed w (Ok (record { at = at; order = order }))) (cells_after order w at value cells) cells
 written_alike order w at value cells =
     let k = only_its_cells order w at value cells in
     record { room = k.room; same = λ j u. k.same j (outside at w j u) }

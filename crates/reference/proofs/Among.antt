@@ -10,7 +10,8 @@ use lib.ListN.{length}
 use borrow.Author.Tests.{ne_eqb, eqb-true, eqb-false}
 use Rattle.board.specs.Layout.{functions_max}
 use Rattle.numbers.proofs.Tests.{either_false}
-use Rattle.interrupt_array.specs.Hooks.{Hook, chosen, packed}
+use Rattle.interrupt_array.specs.Hooks.{chosen, packed}
+use Rattle.interrupt_array.specs.declared.hooks.Hook.{Hook}
 use Rattle.interrupt_hook.specs.Chain.{unhooked}
 use Rattle.interrupt_hook.specs.Meaning.{EveryHook, is_among, without}
 use Rattle.interrupt_hook.proofs.Packed.{every_map}

@@ -9,7 +9,8 @@ use lib.Dec.{eqb, leb}
 use lib.ListN.{length}
 use borrow.Author.Tests.{ne_eqb, eqb-true, leb-true, leb-false}
 use Rattle.numbers.specs.Numbers.{byte_at}
-use Rattle.interrupt_array.specs.Hooks.{Hook, hook, last_line}
+use Rattle.interrupt_array.specs.Hooks.{hook, last_line}
+use Rattle.interrupt_array.specs.declared.hooks.Hook.{Hook}
 use Rattle.interrupt_hook.specs.Meaning.{EveryHook, is_among, without}
 use Rattle.interrupt_hook.proofs.Packed.{every_map}
 use Rattle.interrupt_hook.proofs.Room.{Once, Within, once_few}

@@ -7,11 +7,13 @@ use lib.Dec.{leb, ltb}
 use borrow.Author.Tests.{leb-true, ltb-false, not-true}
 use Rattle.board.specs.Parts.{with_hooks}
 use Rattle.numbers.proofs.Tests.{both_true}
-use Rattle.interrupt_array.specs.Hooks.{Hook, hook, line_of, pin_of, last_line, is_routed, chain_of, packed}
+use Rattle.interrupt_array.specs.Hooks.{hook, line_of, pin_of, last_line, is_routed, chain_of, packed}
+use Rattle.interrupt_array.specs.declared.hooks.Hook.{Hook}
 use Rattle.interrupt_hook.specs.Chain.{HookOutcome}
 use Rattle.interrupt_list.specs.Listing.{listed_hook, chain_listing, chain_number_of, chain_values_of}
 use Rattle.interrupt_hook.specs.Meaning.{without}
-use Rattle.interrupt_list.specs.declared.listing.ChainListing.{ChainListing}
+use Rattle.board.specs.declared.status.CallRefusal.{CallRefusal}
+use Rattle.std.specs.Prelude.{Result}
 use Rattle.interrupt_list.proofs.Listings.{chain_number_lem, chain_values_lem}
 use Rattle.interrupt_hook.proofs.Room.{without_once}
 use Rattle.call.specs.declared.answer.Answer.{Answer}
@@ -86,6 +88,6 @@ module _ (b : Reference) (s : Sound b) where
   unfolding queried reference_queried parts_of
   same_list_chain line index =
       let given : chain_listing (chain_of (lent_records b) (packed (all_lines b.chains)) line) line index ≡ chain_listing (b.chains line) line index =
-      if_both (λ (x y : ChainListing). x ≡ y) (ltb last_line line) (λ e. refl) (λ e. ap (λ (c : List Hook). listed_hook c index) (chain_same b s line (ltb-false last_line line e))) in
-      ap (λ (l : ChainListing). of_chain (chain_number_of l) (chain_values_of l)) given
+      if_both (λ (x y : Result Hook CallRefusal). x ≡ y) (ltb last_line line) (λ e. refl) (λ e. ap (λ (c : List Hook). listed_hook c index) (chain_same b s line (ltb-false last_line line e))) in
+      ap (λ (l : Result Hook CallRefusal). of_chain (chain_number_of l) (chain_values_of l)) given
       ∙ rw (chain_number_lem (b.chains line) line index, chain_values_lem (b.chains line) line index)

@@ -17,7 +17,8 @@ use Rattle.config_read.specs.Target.{target}
 use Rattle.config_read.specs.Read.{read_of, fast_read_of}
 use Rattle.config_write.specs.Write.{ConfigWritten, write_to}
 use Rattle.search.specs.Search.{device_matches, class_matches, matching}
-use Rattle.config_read.specs.declared.target.Target.{Target}
+use Rattle.board.specs.declared.status.CallRefusal.{CallRefusal}
+use Rattle.std.specs.Prelude.{Result}
 use Rattle.config_write.proofs.Moves.{list_follows}
 use Rattle.search.proofs.Searches.{sought_number_lem, matching_same, device_same, class_same}
 use Rattle.call.specs.declared.call.Access.TheVariants.{Read, FastRead, Write}
@@ -37,7 +38,7 @@ unfolding parts_of
 list_afresh b s = list_kept b.records s.kept.sized b.registers s.kept.few
 
 -- what a write of w registers leaves of a board's lent parts
-abbrev pub left : Reference → ℕ → ℕ → ℕ → Target → ConfigWritten
+abbrev pub left : Reference → ℕ → ℕ → ℕ → Result ℕ CallRefusal → ConfigWritten
 left b w register value t =
     let p = parts_of b in write_to p.header p.records p.registers p.windows w register value t
 
@@ -62,7 +63,7 @@ module _ (b : Reference) (s : Sound b) where
   target_same w handle register = rw (count_same b s)
 
   -- a read and a fast read of the same registers
-  abbrev Reads : ℕ → ℕ → Target → Type 0
+  abbrev Reads : ℕ → ℕ → Result ℕ CallRefusal → Type 0
   Reads w register t =
       (read_of (register_byte (flat b.registers)) w register t ≡ read_of b.registers w register t)
       × (fast_read_of (register_byte (flat b.registers)) w register t ≡ fast_read_of b.registers w register t)
@@ -91,7 +92,7 @@ module _ (b : Reference) (s : Sound b) where
       at (list_follows w p.header p.records p.registers p.windows handle register value (ap kept_list (sym (list_afresh b s))))
 
   -- a write, its list worked out anew
-  abbrev Writes : ℕ → ℕ → ℕ → List ℕ → Target → Type 0
+  abbrev Writes : ℕ → ℕ → ℕ → List ℕ → Result ℕ CallRefusal → Type 0
   Writes w register value own t =
       let p = parts_of b in
       let o = left b w register value t in

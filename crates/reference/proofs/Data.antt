@@ -17,10 +17,9 @@ use Rattle.window.specs.Window.{Window}
 use Rattle.window_list.proofs.KeptArray.{kept_of}
 use Rattle.data_cells.specs.Cells.{cell_target_of, cell_target}
 use Rattle.board.specs.Spaces.{space_number}
-use Rattle.data_window.specs.Find.{holds, offers, in_list, find, find_in, find_named}
+use Rattle.data_window.specs.Find.{Finding, holds, offers, in_list, find, find_in, find_named}
 use Rattle.data_order.specs.Orders.{cell_distance}
-use Rattle.data_window.specs.declared.find.Finding.{Finding}
-use Rattle.data_window.specs.declared.find.Finding.TheVariants.{Found, Refused as NoWindow}
+use Rattle.std.specs.Prelude.{Ok, Err}
 use Rattle.board.specs.declared.space.Space.{Space}
 use Rattle.data_window.proofs.Searches.{held}
 use Rattle.data_window.proofs.OnBus.{found_named_lem}
@@ -74,19 +73,19 @@ module _ (b : Reference) (s : Sound b) where
       cell_target_of (λ c. get_or p.cell_offsets (bases * (handle - 1) + c) 0) (byte_order p.records (handle - 1)) (length p.cells) (bytes width) f)
       ≡ cell_target_at b (bytes width) handle f
   unfolding parts_of cell_target_of cell_target_at
-  target_found width space handle address (Found base distance remaining) e =
+  target_found width space handle address (Ok f) e =
       let k = exponent_of b.records in
-      let v = in_window b width space handle _ base distance remaining (found_named_lem address _ base distance remaining e).1 in
-      let n = bases * (handle - 1) + base in
+      let v = in_window b width space handle _ f (found_named_lem address _ f e).1 in
+      let n = bases * (handle - 1) + f.base in
       let there : n < windows_max = omega (arith, v.low, v.high, v.six, s.kept.few) in
-      let o = entry_field b.records (handle - 1) base 1 in
+      let o = entry_field b.records (handle - 1) f.base 1 in
       rw (
-        kept_byte b.records s.kept.sized (handle - 1) (entries_at + entry_size * base + 1) (omega (arith, v.six)),
-        le-ltb (length b.cells) (get_or (offsets_of k) n 0 + cell_distance o (bytes width) distance + bytes width)
+        kept_byte b.records s.kept.sized (handle - 1) (entries_at + entry_size * f.base + 1) (omega (arith, v.six)),
+        le-ltb (length b.cells) (get_or (offsets_of k) n 0 + cell_distance o (bytes width) f.distance + bytes width)
             (omega (arith, v.inside o, (cell_ranges k).apart n windows_max there (omega arith), (cell_ranges k).last, s.fits)),
         offset_at_lem k n (omega arith),
       )
-  target_found width space handle address (NoWindow r) e = refl
+  target_found width space handle address (Err r) e = refl
 
   target_same : (width : Width) (space handle : ℕ) (address : InEdition)
       → (let p = parts_of b in cell_target (bytes width) p.header p.records p.windows p.cell_offsets (length p.cells) space handle address)
@@ -109,7 +108,7 @@ module _ (b : Reference) (s : Sound b) where
   same_write_data space width handle address value own =
       rw (target_same width _ handle address)
       (if_at (cell_target_for b (bytes width) (space_number space) handle address)
-      (λ at order e.
+      (λ c e.
       rw e (as_outcome _ (sound_with s (simp length-sets (omega arith)) s.chained)))
       (λ r e. rw e (as_outcome b s)))
 

@@ -10,7 +10,7 @@ use borrow.Author.Tests.{ltb-false}
 use Rattle.board.specs.Parts.{Parts}
 use Rattle.board.specs.Layout.{functions_max, registers_each, mark_size}
 use Rattle.numbers.specs.Numbers.{bytes}
-use Rattle.config_read.specs.declared.target.Target.TheVariants.{Function}
+use Rattle.std.specs.Prelude.{Ok}
 use Rattle.config_write.specs.Write.{moves_windows}
 use Rattle.board.specs.Spaces.{space_number}
 use Rattle.cell_layout.specs.Cells.{total}
@@ -99,7 +99,7 @@ module _ (b : Reference) (s : Sound b) (own : List ℕ) where
       → Stays t b own (write_of b w register value own g))
       (length b.records) w handle register
       (λ i h e k l.
-      records_left t b own (write_of b w register value own (Function i)) refl
+      records_left t b own (write_of b w register value own (Ok i)) refl
       (table_alike (addressed w handle register) (functions_max * registers_each) _ _ (λ j u. rw (rw (e, add-one (j / registers_each), add-one i, eqb-suc-suc) at u)))
       l (λ u. refl) (alike _ _) (alike _ _) (alike _ own))
       (λ l. keeps t b own _) (λ l. keeps t b own _)
@@ -117,7 +117,7 @@ module _ (b : Reference) (s : Sound b) (own : List ℕ) where
   stays (Data space width handle address FastRead) = keeps nothing b own _
   stays (Data space width handle address (Write value)) =
       if_at (cell_target_for b (bytes width) (space_number space) handle address)
-      (λ at order e. rw e (cells_and_own _ b _ own own _ (written_alike order _ at value b.cells) (alike _ own)))
+      (λ c e. rw e (cells_and_own _ b _ own own _ (written_alike c.order _ c.at value b.cells) (alike _ own)))
       (λ r e. rw e (keeps _ b own _))
   stays (GetResource handle) = stays_resource b own handle
   stays (HookInterrupt handle handler parameter) = stays_hook b own handle handler parameter

@@ -9,7 +9,8 @@ use lib.Dec.{eqb}
 use lib.ListN.{length}
 use borrow.Author.Tests.{eq-eqb, ne_eqb}
 use Rattle.board.specs.Layout.{functions_max}
-use Rattle.interrupt_array.specs.Hooks.{Hook, hook, hook_at, line_of, last_line, chosen, chain_of, packed}
+use Rattle.interrupt_array.specs.Hooks.{hook, hook_at, line_of, last_line, chosen, chain_of, packed}
+use Rattle.interrupt_array.specs.declared.hooks.Hook.{Hook}
 use Rattle.interrupt_hook.specs.Chain.{is_hooked, is_free, hooked}
 use Rattle.interrupt_hook.specs.Meaning.{EveryHook, is_among}
 use Rattle.interrupt_hook.proofs.Entries.{chosen_append}

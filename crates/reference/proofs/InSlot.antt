@@ -20,9 +20,10 @@ use Rattle.window_list.specs.Meaning.{OpenAt}
 use Rattle.window_list.proofs.Meaning.{means}
 use Rattle.data_order.specs.Orders.{cell_distance}
 use Rattle.call_edition.specs.declared.edition.InEdition.{InEdition}
-use Rattle.data_window.specs.declared.find.Finding.{Finding}
-use Rattle.data_window.specs.declared.find.Finding.TheVariants.{Found, Refused as NoWindow}
-use Rattle.data_cells.specs.declared.target.CellTarget.TheVariants.{At}
+use Rattle.data_window.specs.Find.{Finding}
+use Rattle.data_window.specs.declared.find.Found.{Found}
+use Rattle.data_cells.specs.declared.target.Cells.{Cells}
+use Rattle.std.specs.Prelude.{Ok, Err}
 use Rattle.data_window.proofs.Searches.{Held, held}
 use Rattle.data_window.proofs.Meaning.{found_means}
 use Rattle.data_window.proofs.OnBus.{found_named_lem}
@@ -84,11 +85,11 @@ window_inside width order count k r v handle address o h a =
     rw (e, ap (λ (u : Window). u.base) o.same, slot_of k o.function o.register o.six, start)
     (inside_open width order _ _ (command (r o.function)) address o.opened (omega (arith, h.from)) (omega (arith, h.to)) a)
 
-pub in_window : (b : Reference) (width : Width) (space handle address base distance remaining : ℕ)
-    → find_for b (bytes width) space handle address ≡ Found base distance remaining → InWindow b (bytes width) handle base distance
-in_window b width space handle address base distance remaining e =
+pub in_window : (b : Reference) (width : Width) (space handle address : ℕ) (g : Found)
+    → find_for b (bytes width) space handle address ≡ Ok g → InWindow b (bytes width) handle g.base g.distance
+in_window b width space handle address g e =
     let rs = b.records in
-    let m = found_means _ _ _ (windows_of b) space (bytes width) handle address base distance remaining e in
+    let m = found_means _ _ _ (windows_of b) space (bytes width) handle address g e in
     let good = both_true (leb 1 handle) (leb handle (length rs)) m.0.0 in
     let f = m.1.1 in
     let h = held space handle address f.window f.own in
@@ -102,23 +103,23 @@ in_window b width space handle address base distance remaining e =
           at (window_inside width order (length rs) (exponent_of rs) b.registers f.window handle address o h m.1.0.0);
     }
 
-pub in_slot : (b : Reference) (width : Width) (space handle : ℕ) (address : InEdition) (at order : ℕ)
-    → cell_target_for b (bytes width) space handle address ≡ At at order → InSlot b (bytes width) handle at
+pub in_slot : (b : Reference) (width : Width) (space handle : ℕ) (address : InEdition) (c : Cells)
+    → cell_target_for b (bytes width) space handle address ≡ Ok c → InSlot b (bytes width) handle c.at
 unfolding cell_target_at
-in_slot b width space handle address at order e = by (find_named_for b (bytes width) space handle address) refl e
+in_slot b width space handle address c e = by (find_named_for b (bytes width) space handle address) refl e
   where
-    by : (f : Finding) → find_named_for b (bytes width) space handle address ≡ f → cell_target_at b (bytes width) handle f ≡ At at order
-        → InSlot b (bytes width) handle at
-    by (Found base distance remaining) g h =
-        let w = in_window b width space handle _ base distance remaining (found_named_lem address _ base distance remaining g).1 in
-        let o = entry_field b.records (handle - 1) base 1 in
+    by : (f : Finding) → find_named_for b (bytes width) space handle address ≡ f → cell_target_at b (bytes width) handle f ≡ Ok c
+        → InSlot b (bytes width) handle c.at
+    by (Ok f) g h =
+        let w = in_window b width space handle _ f (found_named_lem address _ f g).1 in
+        let o = entry_field b.records (handle - 1) f.base 1 in
         record {
-          base = base;
-          distance = cell_distance o (bytes width) distance;
+          base = f.base;
+          distance = cell_distance o (bytes width) f.distance;
           low = w.low;
           high = w.high;
           six = w.six;
           start = cc h;
           inside = w.inside o;
         }
-    by (NoWindow r) g h = absurd (false≢true (cc h))
+    by (Err r) g h = absurd (false≢true (cc h))

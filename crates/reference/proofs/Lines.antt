@@ -7,7 +7,8 @@ use mathlib.Core.List.{List, ◌++◌, append-nil, append_assoc}
 use mathlib.Core.Path.{◌≡◌, refl, sym, ◌∙◌, ap}
 use lib.Dec.{eqb}
 use borrow.Author.Tests.{eq-eqb, ne_eqb}
-use Rattle.interrupt_array.specs.Hooks.{Hook, last_line}
+use Rattle.interrupt_array.specs.Hooks.{last_line}
+use Rattle.interrupt_array.specs.declared.hooks.Hook.{Hook}
 use Rattle.interrupt_hook.specs.Meaning.{EveryHook}
 use Rattle.reference.specs.Run.{line_by_line}
 use Rattle.reference.proofs.Among.{every_append}

@@ -7,22 +7,22 @@ use lib.Dec.{eqb, ltb, leb}
 use lib.ListN.{length}
 use borrow.Author.Tests.{eq-eqb, ne_eqb, eqb-true}
 use Rattle.numbers.specs.Numbers.{bytes}
-use Rattle.interrupt_array.specs.Hooks.{Hook, hook, is_routed}
+use Rattle.interrupt_array.specs.Hooks.{hook, is_routed}
+use Rattle.interrupt_array.specs.declared.hooks.Hook.{Hook}
 use Rattle.interrupt_hook.specs.Meaning.{is_among, without}
 use Rattle.cell_layout.specs.Cells.{total}
 use Rattle.image_layout.specs.Image.{image_size}
-use Rattle.image_refusals.specs.Refusals.{is_accepted}
 use Rattle.board.specs.Spaces.{space_number}
-use Rattle.config_read.specs.declared.target.Target.{Target}
-use Rattle.config_read.specs.declared.target.Target.TheVariants.{Function, Refused}
-use Rattle.data_cells.specs.declared.target.CellTarget.{CellTarget}
-use Rattle.data_cells.specs.declared.target.CellTarget.TheVariants.{At, Refused as NoPlace}
+use Rattle.board.specs.declared.status.CallRefusal.{CallRefusal}
+use Rattle.data_cells.specs.Cells.{CellTarget}
+use Rattle.std.specs.Prelude.{Result, Ok, Err}
+use Rattle.reference.proofs.Verdicts.{refuses_image, if_accepted}
 use Rattle.call.specs.declared.answer.Answer.{Answer}
 use Rattle.call.specs.declared.call.Call.{Call}
 use Rattle.call.specs.declared.call.Access.TheVariants.{Read, FastRead, Write}
 use Rattle.call.specs.declared.call.Call.TheVariants.{Load, Reset, WriteImage, Config, Data, GetResource, HookInterrupt, UnhookInterrupt, SetCardUsed, Ask}
 use Rattle.call.specs.Answers.{of_status}
-use Rattle.data_window.specs.Find.{status_of}
+use Rattle.data_window.specs.Find.{refusal_of}
 use Rattle.reference.specs.State.{outcome}
 use Rattle.reference.specs.Reference.{Reference, ReferenceOutcome, reference_outcome, is_handle_of, exponent_of, line_for, pin_for, image_verdict, target_of, cell_target_for, write_of, write_data_of, reference_step}
 use Rattle.reference.specs.Run.{parts_of}
@@ -62,13 +62,13 @@ module _ (b : Reference) (own : List ℕ) (line : ℕ) where
   stay : (a : Answer) → Line hooks_stay b line (reference_outcome a b own)
   stay a = kept_line a.refused line (b.chains line)
 
-  write_line : (w register value : ℕ) (t : Target) → Line hooks_stay b line (write_of b w register value own t)
-  write_line w register value (Function i) = refl
-  write_line w register value (Refused s) = stay (of_status s)
+  write_line : (w register value : ℕ) (t : Result ℕ CallRefusal) → Line hooks_stay b line (write_of b w register value own t)
+  write_line w register value (Ok i) = refl
+  write_line w register value (Err r) = stay (of_status (Err r))
 
   data_line : (w value : ℕ) (t : CellTarget) → Line hooks_stay b line (write_data_of b w value own t)
-  data_line w value (At at order) = refl
-  data_line w value (NoPlace r) = stay (of_status (status_of r))
+  data_line w value (Ok c) = refl
+  data_line w value (Err r) = stay (of_status (Err (refusal_of r)))
 
   hook_line : (handle handler parameter : ℕ)
       → (let c = HookInterrupt handle handler parameter in Line (may_touch b c own).hooks b line (reference_step b c own))
@@ -101,7 +101,7 @@ module _ (b : Reference) (own : List ℕ) (line : ℕ) where
   lines_stay : (c : Call) → Line (may_touch b c own).hooks b line (reference_step b c own)
   unfolding may_touch reference_step
   lines_stay Load =
-      if_test (Line all_cleared b line) (is_accepted (image_verdict own (length b.cells))) (λ e. rw e) (λ e. rw e)
+      if_accepted (image_verdict own (length b.cells)) (λ e. rw e refl) (λ r e. rw (e, refuses_image r) refl)
   lines_stay Reset =
       if_test (Line all_cleared b line) (ltb (length b.cells) (total (exponent_of b.records))) (λ e. refl) (λ e. refl)
   lines_stay WriteImage =

@@ -9,7 +9,7 @@ use lib.Dec.{ltb}
 use lib.IntN.{ℤ}
 use Rattle.board.specs.Parts.{Parts}
 use Rattle.board.specs.Handles.{is_handle}
-use Rattle.board.specs.Statuses.{func_not_supported, bad_vendor_id, device_not_found}
+use Rattle.board.specs.Statuses.{number_of, func_not_supported, bad_vendor_id, device_not_found}
 use Rattle.call_edition.specs.Edition.{is_draft, is_known, is_bad_vendor}
 use Rattle.call_edition.specs.declared.edition.InEdition.{InEdition}
 use Rattle.numbers.proofs.Tests.{both_true}
@@ -17,12 +17,14 @@ use Rattle.window.specs.Window.{Window}
 use Rattle.window.specs.Kept.{unpacked}
 use Rattle.window_listing.specs.Listing.{listing, listing_number, listing_values}
 use Rattle.search.specs.Search.{searched, found_number, Sought, sought_at}
-use Rattle.address_convert.specs.declared.convert.ToBus.{ToBus}
-use Rattle.address_convert.specs.declared.convert.ToCpu.{ToCpu}
-use Rattle.interrupt_array.specs.Hooks.{Hook, last_line, chain_of}
+use Rattle.board.specs.declared.address.BusAddress.{BusAddress}
+use Rattle.board.specs.declared.address.CpuAddress.{CpuAddress}
+use Rattle.board.specs.declared.status.CallRefusal.{CallRefusal}
+use Rattle.std.specs.Prelude.{Result}
+use Rattle.interrupt_array.specs.Hooks.{last_line, chain_of}
+use Rattle.interrupt_array.specs.declared.hooks.Hook.{Hook}
 use Rattle.interrupt_list.specs.Listing.{listed_hook, chain_number_of, chain_values_of}
-use Rattle.interrupt_list.specs.declared.listing.ChainListing.{ChainListing}
-use Rattle.card_used.specs.declared.used.CardUsed.{CardUsed}
+use Rattle.card_used.specs.declared.used.Mark.{Mark}
 use Rattle.call.specs.declared.answer.Answer.{Answer}
 use Rattle.call.specs.declared.call.Query.{Query}
 use Rattle.call.specs.declared.call.Query.TheVariants.{FindPciDevice, FindPciClasscode, BusToCpu, CpuToBus, ListChain, GetCardUsed, SpecialCycle, GetRouting, SetInterrupt, ListWindow}
@@ -37,7 +39,7 @@ abbrev pub Stated : Query → Answer → Type 0
 Stated q a = a.refused ≡ true → Among a.number (query_refusals q) × (a.values ≡ zeros)
 
 -- a search that goes through matches refuses exactly where there is no such match
-matches_stated : (q : Query) → Among device_not_found.0 (query_refusals q) → (hs : List ℕ) (m : ℕ) → Stated q (of_search (found_number (searched hs m)))
+matches_stated : (q : Query) → Among (number_of device_not_found) (query_refusals q) → (hs : List ℕ) (m : ℕ) → Stated q (of_search (found_number (searched hs m)))
 unfolding searched
 matches_stated q n [] m e = (n, refl)
 matches_stated q n (h ∷ hs) zero e = not_refused e
@@ -48,12 +50,12 @@ pub in_known : (named : InEdition) (z : ℤ) (draft later : List ℤ) → is_kno
     → Among z (in_editions named draft later)
 in_known named z draft later k a b = if_either (is_draft named) (λ d. rw d a) (λ d. rw (k, d) b)
 
-pub in_unknown : (named : InEdition) (draft later : List ℤ) → is_known named ≡ false → Among func_not_supported.0 (in_editions named draft later)
+pub in_unknown : (named : InEdition) (draft later : List ℤ) → is_known named ≡ false → Among (number_of func_not_supported) (in_editions named draft later)
 in_unknown named draft later k =
     if_either (is_draft named) (λ d. absurd (true≢false (rw d at k))) (λ d. rw (k, d) (inl refl))
 
 -- vendor FFFFh is bad in draft 1.9
-bad_vendor : (id : InEdition) (later : List ℤ) → is_bad_vendor id ≡ true → Among bad_vendor_id.0 (in_editions id (bad_vendor_id.0 ∷ device_not_found.0 ∷ []) later)
+bad_vendor : (id : InEdition) (later : List ℤ) → is_bad_vendor id ≡ true → Among (number_of bad_vendor_id) (in_editions id ((number_of bad_vendor_id) ∷ (number_of device_not_found) ∷ []) later)
 bad_vendor id later v = rw (both_true (is_draft id) _ v).0 (inl refl)
 
 device_stated : (p : Parts) (id : InEdition) (index : ℕ) → Stated (FindPciDevice id index) (queried p (FindPciDevice id index))
@@ -95,14 +97,14 @@ unfolding queried
 query_stated p (FindPciDevice id index) = device_stated p id index
 query_stated p (FindPciClasscode class index) = class_stated p class index
 query_stated p (BusToCpu handle address) =
-    if_test (λ (t : ToCpu). Stated (BusToCpu handle address) (of_to_cpu t)) (is_handle p.header handle) (λ g e. not_refused e) (λ g e. (inl refl, refl))
+    if_test (λ (t : Result CpuAddress CallRefusal). Stated (BusToCpu handle address) (of_to_cpu t)) (is_handle p.header handle) (λ g e. not_refused e) (λ g e. (inl refl, refl))
 query_stated p (CpuToBus handle address) =
-    if_test (λ (t : ToBus). Stated (CpuToBus handle address) (of_to_bus t)) (is_handle p.header handle) (λ g e. not_refused e) (λ g e. (inl refl, refl))
+    if_test (λ (t : Result BusAddress CallRefusal). Stated (CpuToBus handle address) (of_to_bus t)) (is_handle p.header handle) (λ g e. not_refused e) (λ g e. (inl refl, refl))
 query_stated p (ListChain line index) =
-    if_test (λ (l : ChainListing). Stated (ListChain line index) (of_chain (chain_number_of l) (chain_values_of l))) (ltb last_line line)
+    if_test (λ (l : Result Hook CallRefusal). Stated (ListChain line index) (of_chain (chain_number_of l) (chain_values_of l))) (ltb last_line line)
     (λ t e. (inl refl, refl)) (λ t. chain_stated line index (chain_of p.records p.hooks line) index)
 query_stated p (GetCardUsed handle) =
-    if_test (λ (u : CardUsed). Stated (GetCardUsed handle) (of_used u)) (is_handle p.header handle) (λ g e. not_refused e) (λ g e. (inl refl, refl))
+    if_test (λ (u : Result Mark CallRefusal). Stated (GetCardUsed handle) (of_used u)) (is_handle p.header handle) (λ g e. not_refused e) (λ g e. (inl refl, refl))
 query_stated p (SpecialCycle bus message) = λ e. (inl refl, refl)
 query_stated p (GetRouting handle) = λ e. (inl refl, refl)
 query_stated p (SetInterrupt handle mode) = λ e. (inl refl, refl)

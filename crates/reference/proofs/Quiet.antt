@@ -6,8 +6,9 @@ use mathlib.Core.List.{List}
 use borrow.Author.Tests.{eqb-true}
 use Rattle.numbers.specs.Numbers.{bytes}
 use Rattle.board.specs.Spaces.{space_number}
-use Rattle.data_cells.specs.declared.target.CellTarget.{CellTarget}
-use Rattle.data_cells.specs.declared.target.CellTarget.TheVariants.{At, Refused as NoPlace}
+use Rattle.data_cells.specs.Cells.{CellTarget}
+use Rattle.data_cells.specs.declared.target.Cells.{Cells}
+use Rattle.std.specs.Prelude.{Ok, Err}
 use Rattle.call.specs.declared.call.Call.{Call}
 use Rattle.call.specs.declared.call.Access.TheVariants.{Read, FastRead, Write}
 use Rattle.call.specs.declared.call.Call.TheVariants.{Load, Reset, WriteImage, Config, Data, GetResource, HookInterrupt, UnhookInterrupt, SetCardUsed, Ask}
@@ -18,18 +19,18 @@ use Rattle.reference.proofs.Like.{Like, others_hidden}
 
 -- the cells of an access, if there are any, lies in a window of the handle's function
 abbrev pub Lies : Reference → ℕ → ℕ → CellTarget → Type 0
-Lies b w handle p = (at order : ℕ) → p ≡ At at order → InSlot b w handle at
+Lies b w handle p = (c : Cells) → p ≡ Ok c → InSlot b w handle c.at
 
 -- a data write through h
 hidden : {h : ℕ} {b d : Reference} → Like h b d → (w handle value : ℕ) (own : List ℕ) → handle ≡ h → (p : CellTarget) → Lies b w handle p
     → Like h (write_data_of b w value own p).reference d
-hidden {h} {b} {d} l w handle value own q (At at order) s =
+hidden {h} {b} {d} l w handle value own q (Ok c) s =
     record {
       few = l.few;
       rest = l.rest;
-      others = others_hidden b b.cells d.cells l.others w handle at order (s at order refl) value q;
+      others = others_hidden b b.cells d.cells l.others w handle c.at c.order (s c refl) value q;
     }
-hidden l w handle value own q (NoPlace r) s = l
+hidden l w handle value own q (Err r) s = l
 
 pub quiet : {h : ℕ} {b d : Reference} → Like h b d → (c : Call) (own : List ℕ) → struck_out h c ≡ true
     → Like h (reference_step b c own).reference d

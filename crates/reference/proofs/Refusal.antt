@@ -12,20 +12,21 @@ use Rattle.call_edition.specs.Edition.{is_known}
 use Rattle.call_edition.specs.declared.edition.InEdition.{InEdition}
 use Rattle.numbers.specs.declared.number.Width.{Width}
 use Rattle.numbers.specs.Numbers.{bytes}
-use Rattle.board.specs.Statuses.{bad_register_number, bad_handle}
 use Rattle.board.specs.Handles.{function_count, is_handle}
 use Rattle.config_read.specs.Target.{target}
-use Rattle.config_read.specs.declared.target.Target.{Target}
-use Rattle.config_read.specs.declared.target.Target.TheVariants.{Function, Refused}
+use Rattle.board.specs.Statuses.{refusal_number}
+use Rattle.board.specs.declared.status.CallRefusal.{CallRefusal}
+use Rattle.board.specs.declared.status.CallRefusal.TheVariants.{BadRegisterNumber}
+use Rattle.std.specs.Prelude.{Result, Ok, Err}
 use Rattle.config_write.specs.Write.{write_config}
 use Rattle.data_cells.specs.Cells.{cell_target_of, cell_target}
 use Rattle.board.specs.Spaces.{space_number}
-use Rattle.data_window.specs.Find.{status_of}
+use Rattle.data_window.specs.Find.{refusal_of}
 use Rattle.data_window.specs.declared.refusal.DataRefusal.{DataRefusal}
 use Rattle.data_window.specs.declared.refusal.DataRefusal.TheVariants.{UnknownEdition, BadHandle, ShortCells, NotAligned, Nothing, Contested, WidthMissing, PastBuffer}
 use Rattle.board.specs.declared.space.Space.{Space}
-use Rattle.data_cells.specs.declared.target.CellTarget.{CellTarget}
-use Rattle.data_cells.specs.declared.target.CellTarget.TheVariants.{At, Refused as NoPlace}
+use Rattle.data_cells.specs.Cells.{CellTarget}
+use Rattle.data_cells.specs.declared.target.Cells.{Cells}
 use Rattle.image_layout.specs.Image.{image_size}
 use Rattle.reset.specs.Reset.{reset}
 use Rattle.load.specs.Load.{load}
@@ -41,12 +42,12 @@ use Rattle.reference.proofs.Refused.{Kept, not_refused, untouched, kept_resource
 use Rattle.reference.proofs.QueryRefused.{in_known, in_unknown, query_stated}
 
 -- what a configuration access of w bytes is for
-abbrev target_at : Parts → ℕ → ℕ → ℕ → Target
+abbrev target_at : Parts → ℕ → ℕ → ℕ → Result ℕ CallRefusal
 target_at p w handle register = target (is_handle p.header handle) w handle register
 
 -- it is for a function, or is refused with one of the two numbers
-if_function : {X : Type 0} (p : Parts) (w handle register : ℕ) → ((i : ℕ) → target_at p w handle register ≡ Function i → X)
-    → (target_at p w handle register ≡ Refused bad_register_number → X) → (target_at p w handle register ≡ Refused bad_handle → X) → X
+if_function : {X : Type 0} (p : Parts) (w handle register : ℕ) → ((i : ℕ) → target_at p w handle register ≡ Ok i → X)
+    → (target_at p w handle register ≡ Err BadRegisterNumber → X) → (target_at p w handle register ≡ Err CallRefusal.BadHandle → X) → X
 if_function {X} p w handle register f r h =
     if_target (λ t. target_at p w handle register ≡ t → X) (function_count p.header) w handle register (λ i l e k. f i) r h refl
 
@@ -66,7 +67,7 @@ place_at p space width handle address =
     cell_target (bytes width) p.header p.records p.windows p.cell_offsets (length p.cells) (space_number space) handle address
 
 -- it is refused with one of the stated numbers
-data_stated : (r : DataRefusal) → Among (status_of r).0 data_refusals
+data_stated : (r : DataRefusal) → Among (refusal_number (refusal_of r)) data_refusals
 data_stated UnknownEdition = inr (inr (inr (inl refl)))
 data_stated BadHandle = inl refl
 data_stated ShortCells = inr (inl refl)
@@ -82,8 +83,8 @@ numbers address = in_editions address data_refusals data_refusals
 
 -- it stands at cells, or is refused with a number of its edition
 if_place : {X : Type 0} (p : Parts) (space : Space) (width : Width) (handle : ℕ) (address : InEdition)
-    → ((at order : ℕ) → place_at p space width handle address ≡ At at order → X)
-    → ((r : DataRefusal) → Among (status_of r).0 (numbers address) → place_at p space width handle address ≡ NoPlace r → X) → X
+    → ((c : Cells) → place_at p space width handle address ≡ Ok c → X)
+    → ((r : DataRefusal) → Among (refusal_number (refusal_of r)) (numbers address) → place_at p space width handle address ≡ Err r → X) → X
 unfolding cell_target_of
 if_place p space width handle address f g =
     if_either (is_known address)
@@ -95,7 +96,7 @@ unfolding step load reset write_image
 refusal p Load own =
     if_verdict (stated own (length p.cells)) (λ e. rw e (λ f. not_refused f))
     (λ i e. rw e (λ f. untouched (inr (inr (inr (inr (inr (inl refl)))))) (inr (refl, refl))))
-    (λ n a z e. rw (e, z) (λ f. untouched a (inl refl)))
+    (λ r a z e. rw (e, z) (λ f. untouched a (inl refl)))
 refusal p Reset own =
     if_either (ltb (length p.cells) (get_or p.cell_offsets windows_max 0))
     (λ e. rw e (λ f. untouched (inl refl) refl)) (λ e. rw e (λ f. not_refused f))
@@ -116,13 +117,13 @@ refusal p (Config width handle register FastRead) own =
     (λ e. rw e (λ f. untouched (inl refl) refl))
 refusal p (Config width handle register (Write value)) own = write_kept p own width _ handle register value
 refusal p (Data space width handle address Read) own =
-    if_place p space width handle address (λ at order e. rw e (λ f. not_refused f))
+    if_place p space width handle address (λ c e. rw e (λ f. not_refused f))
     (λ r n e. rw e (λ f. untouched n refl))
 refusal p (Data space width handle address FastRead) own =
-    if_place p space width handle address (λ at order e. rw e (λ f. not_refused f))
+    if_place p space width handle address (λ c e. rw e (λ f. not_refused f))
     (λ r n e. rw e (λ f. untouched (inl refl) refl))
 refusal p (Data space width handle address (Write value)) own =
-    if_place p space width handle address (λ at order e. rw e (λ f. not_refused f))
+    if_place p space width handle address (λ c e. rw e (λ f. not_refused f))
     (λ r n e. rw e (λ f. untouched n refl))
 refusal p (GetResource handle) own = kept_resource p own handle
 refusal p (HookInterrupt handle handler parameter) own = kept_hook p own handle handler parameter

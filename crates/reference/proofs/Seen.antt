@@ -9,17 +9,16 @@ use lib.ListN.{length}
 use borrow.Author.Tests.{eqb-false}
 use Rattle.board.specs.Layout.{functions_max}
 use Rattle.numbers.specs.Numbers.{bytes}
-use Rattle.config_read.specs.declared.target.Target.{Target}
-use Rattle.config_read.specs.declared.target.Target.TheVariants.{Function, Refused}
+use Rattle.board.specs.declared.status.CallRefusal.{CallRefusal}
+use Rattle.std.specs.Prelude.{Result, Ok, Err}
 use Rattle.data_access.specs.Data.{read_at, fast_read_at}
 use Rattle.board.specs.Spaces.{space_number}
-use Rattle.data_window.specs.declared.find.Finding.{Finding}
-use Rattle.data_window.specs.declared.find.Finding.TheVariants.{Found, Refused as NoWindow}
-use Rattle.data_cells.specs.declared.target.CellTarget.{CellTarget}
-use Rattle.data_cells.specs.declared.target.CellTarget.TheVariants.{At, Refused as NoPlace}
-use Rattle.interrupt_array.specs.Hooks.{Hook, is_routed}
+use Rattle.data_window.specs.Find.{Finding}
+use Rattle.data_cells.specs.Cells.{CellTarget}
+use Rattle.interrupt_array.specs.Hooks.{is_routed}
+use Rattle.interrupt_array.specs.declared.hooks.Hook.{Hook}
 use Rattle.interrupt_hook.specs.Meaning.{is_among}
-use Rattle.card_used.specs.Used.{Mark}
+use Rattle.card_used.specs.declared.used.Mark.{Mark}
 use Rattle.cell_layout.specs.Cells.{total}
 use Rattle.image_refusals.specs.Refusals.{is_accepted}
 use Rattle.image_layout.specs.Image.{image_size}
@@ -73,27 +72,27 @@ module _ {h : ℕ} (b : Reference) (m : List ℕ) (l : Like h b (with_cells_of m
       if_both (Both h) (ltb (length own) (image_size (length b.records))) (λ e. both_outcomes l)
       (λ e. if_both (Both h) (eqb (length b.records) 0) (λ z. both_outcomes l) (λ z. both_outcomes l))
 
-  seen_config : (w register value : ℕ) (t : Target) → Both h (write_of b w register value own t) (write_of (with_cells_of m b) w register value own t)
-  seen_config w register value (Function i) = both_outcomes (record { few = l.few; rest = refl; others = l.others })
-  seen_config w register value (Refused s) = both_outcomes l
+  seen_config : (w register value : ℕ) (t : Result ℕ CallRefusal) → Both h (write_of b w register value own t) (write_of (with_cells_of m b) w register value own t)
+  seen_config w register value (Ok i) = both_outcomes (record { few = l.few; rest = refl; others = l.others })
+  seen_config w register value (Err r) = both_outcomes l
 
   -- where a finding leads does not depend on what the cells hold
   target_same : (w handle : ℕ) (f : Finding) → cell_target_at (with_cells_of m b) w handle f ≡ cell_target_at b w handle f
   unfolding cell_target_at
-  target_same w handle (Found base distance remaining) = refl
-  target_same w handle (NoWindow r) = refl
+  target_same w handle (Ok f) = refl
+  target_same w handle (Err r) = refl
 
   -- a read and a fast read through another handle
   reads : (w handle : ℕ) → (handle ≡ h → ⊥) → (p : CellTarget) → Lies b w handle p
       → (read_at w b.cells p ≡ read_at w m p) × (fast_read_at w b.cells p ≡ fast_read_at w m p)
-  reads w handle n (At at order) s =
-      let v = value_same b b.cells m l.others w handle at order (s at order refl) n in (rw v, rw v)
-  reads w handle n (NoPlace r) s = (refl, refl)
+  reads w handle n (Ok c) s =
+      let v = value_same b b.cells m l.others w handle c.at c.order (s c refl) n in (rw v, rw v)
+  reads w handle n (Err r) s = (refl, refl)
 
   seen_write : (w value : ℕ) (p : CellTarget) → Both h (write_data_of b w value own p) (write_data_of (with_cells_of m b) w value own p)
-  seen_write w value (At at order) =
-      both_outcomes (record { few = l.few; rest = refl; others = others_written b.records b.cells m order w at value l.others })
-  seen_write w value (NoPlace r) = both_outcomes l
+  seen_write w value (Ok c) =
+      both_outcomes (record { few = l.few; rest = refl; others = others_written b.records b.cells m c.order w c.at value l.others })
+  seen_write w value (Err r) = both_outcomes l
 
   -- another chain or mark in both
   like_chain : (line : ℕ) (chain : List Hook) → Like h (with_chain_of line chain b) (with_chain_of line chain (with_cells_of m b))

@@ -54,13 +54,13 @@ module _ (b : Reference) (s : Sound b) where
       (if_either (is_accepted (image_verdict own (length b.cells)))
       (λ e.
       let w = accepted_whole own (length b.cells) e in
-      rw (e, e) (record {
+      rw e (record {
         answer = refl;
         parts = installed_same own b.cells w;
         own = refl;
         sound = fresh_sound (image_records own) b.cells w.kept w.fits;
       }))
-      (λ e. rw (e, e) (as_outcome b s)))
+      (λ e. rw e (as_outcome b s)))
 
   same_reset : (own : List ℕ) → Simulated b Reset own
   unfolding step reference_step reset parts_of

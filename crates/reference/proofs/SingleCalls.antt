@@ -1,6 +1,6 @@
 -- The laws of single calls.
 use Prim.Native.Nat.{ℕ}
-use mathlib.Core.Bool.{true, false, not, false≢true}
+use mathlib.Core.Bool.{true, false, false≢true}
 use mathlib.Core.List.{List, [], ◌∷◌}
 use mathlib.Core.Path.{◌≡◌, refl, sym, ap, ◌∙◌}
 use lib.Dec.{ltb}
@@ -9,7 +9,8 @@ use Rattle.board.specs.Parts.{Parts}
 use Rattle.board.specs.Layout.{windows_max}
 use Rattle.board.specs.Spaces.{space_number}
 use Rattle.numbers.specs.Numbers.{bytes}
-use Rattle.data_window.specs.Find.{status_of}
+use Rattle.data_window.specs.Find.{refusal_of}
+use Rattle.board.specs.Statuses.{refusal_number}
 use Rattle.data_window.specs.declared.refusal.DataRefusal.{DataRefusal}
 use Rattle.data_window.specs.declared.refusal.DataRefusal.TheVariants.{UnknownEdition, BadHandle, ShortCells, NotAligned, Nothing, Contested, WidthMissing, PastBuffer}
 use Rattle.data_access.proofs.Meaning.{data_read_back, other_reads_kept}
@@ -25,9 +26,9 @@ use Rattle.reference.specs.State.{step}
 use Rattle.reference.specs.Run.{Request, parts_after, step_on}
 use Rattle.reference.specs.SingleCalls.{FastIsPlain, ReadAfterWrite, OtherReads, cells_of_access, is_load, NoLoad, RecordsKept, CallLaws}
 use Rattle.reference.proofs.Tests.{if_either, if_at}
-use Rattle.reference.proofs.Verdicts.{stated, if_verdict}
+use Rattle.reference.proofs.Verdicts.{refuses_image, stated, if_verdict}
 
-data_refuses : (r : DataRefusal) → refuses (status_of r).0 ≡ true
+data_refuses : (r : DataRefusal) → refuses (refusal_number (refusal_of r)) ≡ true
 data_refuses UnknownEdition = refl
 data_refuses BadHandle = refl
 data_refuses ShortCells = refl
@@ -41,14 +42,14 @@ fast_is_plain_lem : FastIsPlain
 unfolding step
 fast_is_plain_lem p space width handle address own =
     if_at (cells_of_access p space width handle address)
-    (λ at order e. rw e (record { refused = refl; values = λ f. refl }))
+    (λ c e. rw e (record { refused = refl; values = λ f. refl }))
     (λ r e. rw (e, data_refuses r) (record { refused = refl; values = λ f. absurd (false≢true (sym f)) }))
 
 read_after_write_lem : ReadAfterWrite
 unfolding step
 read_after_write_lem p space width handle address value own mine =
     if_at (cells_of_access p space width handle address)
-    (λ at order e f.
+    (λ c e f.
     ap of_read (data_read_back (bytes width) p.header p.records p.windows p.cell_offsets p.cells (space_number space) handle address value (rw e)))
     (λ r e. rw (e, data_refuses r) (λ f. absurd (false≢true (sym f))))
 
@@ -104,7 +105,7 @@ not_refused_load p image =
     if_verdict (stated image (length p.cells))
     (λ e. rw e (λ f. refl))
     (λ i e. rw e (λ f. absurd (false≢true (sym f))))
-    (λ n a z e. rw (e, z) (λ f. absurd (false≢true (sym f ∙ ap not z))))
+    (λ r a z e. rw (e, refuses_image r) (λ f. absurd (false≢true (sym f))))
 
 records_kept_lem : RecordsKept
 unfolding step
@@ -114,7 +115,7 @@ records_kept_lem p image out cs a n h =
     let t = round_trip p image out (not_refused_load p image a) h in
     rw (s.header, s.records)
     (record {
-      accepted = rw t.number refl;
+      accepted = rw t.verdict refl;
       loads = λ r. record { answer = rw (t.loads r); parts = rw (t.loads r) };
     })
 

@@ -11,8 +11,8 @@ use borrow.Author.Tests.{leb-true}
 use Rattle.board.specs.Handles.{is_handle}
 use Rattle.board.specs.Layout.{functions_max}
 use Rattle.numbers.proofs.Tests.{both_true}
-use Rattle.interrupt_array.specs.Hooks.{Hook}
-use Rattle.card_used.specs.Used.{Mark}
+use Rattle.interrupt_array.specs.declared.hooks.Hook.{Hook}
+use Rattle.card_used.specs.declared.used.Mark.{Mark}
 use Rattle.cell_layout.specs.Cells.{total}
 use Rattle.call.specs.declared.answer.Answer.{Answer}
 use Rattle.call.specs.declared.call.Call.{Call}

@@ -15,9 +15,11 @@ use Rattle.numbers.proofs.Stores.{sets_other}
 use Rattle.resource_descriptor.specs.Descriptor.{size, descriptors_bytes}
 use Rattle.resource.specs.Resource.{ResourceOutcome, window_bases, descriptors, resource}
 use Rattle.resource.proofs.Shows.{described_size}
-use Rattle.interrupt_array.specs.Hooks.{Hook, is_routed}
+use Rattle.interrupt_array.specs.Hooks.{is_routed}
+use Rattle.interrupt_array.specs.declared.hooks.Hook.{Hook}
 use Rattle.interrupt_hook.specs.Meaning.{is_among}
-use Rattle.card_used.specs.Used.{Mark, mark_number, new_mark}
+use Rattle.card_used.specs.Used.{mark_number, new_mark}
+use Rattle.card_used.specs.declared.used.Mark.{Mark}
 use Rattle.call.specs.declared.answer.Answer.{Answer}
 use Rattle.call.specs.declared.call.Call.TheVariants.{GetResource, HookInterrupt, UnhookInterrupt, SetCardUsed}
 use Rattle.call.specs.Answers.{of_status}

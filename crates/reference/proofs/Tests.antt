@@ -8,15 +8,15 @@ use mathlib.Core.Path.{◌≡◌, refl}
 use lib.Dec.{leb}
 use borrow.Author.Tests.{leb-true}
 use Rattle.board.specs.Layout.{registers_each}
-use Rattle.board.specs.Statuses.{bad_register_number, bad_handle}
 use Rattle.numbers.specs.Numbers.{is_multiple}
 use Rattle.numbers.proofs.Tests.{both_true}
 use Rattle.config_read.specs.Target.{fits, target}
-use Rattle.config_read.specs.declared.target.Target.{Target}
-use Rattle.config_read.specs.declared.target.Target.TheVariants.{Function, Refused}
+use Rattle.board.specs.declared.status.CallRefusal.{CallRefusal}
+use Rattle.board.specs.declared.status.CallRefusal.TheVariants.{BadRegisterNumber, BadHandle}
 use Rattle.data_window.specs.declared.refusal.DataRefusal.{DataRefusal}
-use Rattle.data_cells.specs.declared.target.CellTarget.{CellTarget}
-use Rattle.data_cells.specs.declared.target.CellTarget.TheVariants.{At, Refused as NoPlace}
+use Rattle.data_cells.specs.Cells.{CellTarget}
+use Rattle.data_cells.specs.declared.target.Cells.{Cells}
+use Rattle.std.specs.Prelude.{Result, Ok, Err}
 
 pub if_test : {A : Type 0} (P : A → Type 0) (t : Bool) {x y : A} → (t ≡ true → P x) → (t ≡ false → P y) → P (cond t x y)
 if_test P true p q = p refl
@@ -38,9 +38,9 @@ if_either true f g = f refl
 if_either false f g = g refl
 
 -- an accepted access is for the function of its handle, and inside its registers
-pub if_target : (P : Target → Type 0) (count w handle register : ℕ)
-    → ((i : ℕ) → i < count → handle ≡ i + 1 → register + w ≤ registers_each → P (Function i))
-    → P (Refused bad_register_number) → P (Refused bad_handle)
+pub if_target : (P : Result ℕ CallRefusal → Type 0) (count w handle register : ℕ)
+    → ((i : ℕ) → i < count → handle ≡ i + 1 → register + w ≤ registers_each → P (Ok i))
+    → P (Err BadRegisterNumber) → P (Err BadHandle)
     → P (target (leb 1 handle && leb handle count) w handle register)
 unfolding target
 if_target P count w handle register f r h =
@@ -54,6 +54,6 @@ if_target P count w handle register f r h =
     (λ e. h)
 
 -- a data access stands at cells or is refused
-pub if_at : {X : Type 0} (q : CellTarget) → ((at order : ℕ) → q ≡ At at order → X) → ((r : DataRefusal) → q ≡ NoPlace r → X) → X
-if_at (At at order) f r = f at order refl
-if_at (NoPlace r) f g = g r refl
+pub if_at : {X : Type 0} (q : CellTarget) → ((c : Cells) → q ≡ Ok c → X) → ((r : DataRefusal) → q ≡ Err r → X) → X
+if_at (Ok c) f g = f c refl
+if_at (Err r) f g = g r refl

@@ -8,7 +8,9 @@ use lib.Dec.{leb}
 use Rattle.board.specs.Layout.{functions_max}
 use Rattle.board.specs.Parts.{with_used}
 use Rattle.card_used.specs.Used.{new_mark, used_of, MarkOutcome}
-use Rattle.card_used.specs.declared.used.CardUsed.{CardUsed}
+use Rattle.card_used.specs.declared.used.Mark.{Mark}
+use Rattle.board.specs.declared.status.CallRefusal.{CallRefusal}
+use Rattle.std.specs.Prelude.{Result}
 use Rattle.card_used.proofs.Marks.{marks_at, marks_put}
 use Rattle.call.specs.declared.call.Call.TheVariants.{SetCardUsed}
 use Rattle.call.specs.declared.call.Query.TheVariants.{GetCardUsed}
@@ -27,7 +29,7 @@ module _ (b : Reference) (s : Sound b) where
   pub same_get_used : (handle : ℕ) → Answered b (GetCardUsed handle)
   unfolding queried reference_queried parts_of
   same_get_used handle =
-      ap of_used (if_alike (λ (x y : CardUsed). x ≡ y) (handle_same b s handle) (λ g. ap (used_of true) (marks_at b.used (handle - 1) (marked handle g))) (λ g. refl))
+      ap of_used (if_alike (λ (x y : Result Mark CallRefusal). x ≡ y) (handle_same b s handle) (λ g. ap (used_of true) (marks_at b.used (handle - 1) (marked handle g))) (λ g. refl))
 
   pub same_set_used : (handle status call_back : ℕ) (own : List ℕ) → Simulated b (SetCardUsed handle status call_back) own
   unfolding step reference_step parts_of

@@ -9,12 +9,13 @@
 --                      responses to all other calls are equal, and so are the boards after them
 --                      but for that function's cells and those past the total
 -- Demand3 is the four as one claim.
-use Rattle.std.specs.Prelude.{ℕ, ◌+◌, ◌-◌, ◌*◌, ◌/◌, ◌%◌, ◌^◌, ◌<◌, ◌≤◌, Bool, true, false, cond, ◌&&◌, List, [], ◌∷◌, ◌++◌, ◌⊎◌, ◌≡◌, eqb, leb, ltb, ℤ, pos, length, get_or, replicate}
+use Rattle.std.specs.Prelude.{ℕ, ◌+◌, ◌-◌, ◌*◌, ◌/◌, ◌%◌, ◌^◌, ◌<◌, ◌≤◌, Bool, true, false, cond, ◌&&◌, List, [], ◌∷◌, ◌++◌, ◌⊎◌, ◌≡◌, eqb, leb, ltb, ℤ, pos, length, get_or, replicate, Ok, Err}
 use Rattle.board.specs.Parts.{Parts}
 use Rattle.board.specs.Layout.{bases, registers_each, mark_size}
 use Rattle.numbers.specs.Numbers.{bytes}
 use Rattle.numbers.specs.declared.number.Width.{Width}
 use Rattle.board.specs.Statuses.{
+  number_of,
   func_not_supported,
   bad_vendor_id,
   device_not_found,
@@ -28,10 +29,10 @@ use Rattle.call_edition.specs.Edition.{is_draft, is_known}
 use Rattle.call_edition.specs.declared.edition.InEdition.{InEdition}
 use Rattle.config_write.specs.Write.{moves_windows}
 use Rattle.board.specs.Spaces.{space_number}
-use Rattle.data_cells.specs.declared.target.CellTarget.{CellTarget}
-use Rattle.data_cells.specs.declared.target.CellTarget.TheVariants.{At, Refused}
+use Rattle.data_cells.specs.Cells.{CellTarget}
 use Rattle.resource_descriptor.specs.Descriptor.{size}
-use Rattle.interrupt_array.specs.Hooks.{Hook, hook, last_line, chain_of}
+use Rattle.interrupt_array.specs.Hooks.{hook, last_line, chain_of}
+use Rattle.interrupt_array.specs.declared.hooks.Hook.{Hook}
 use Rattle.resource.specs.Resource.{window_bases}
 use Rattle.cell_layout.specs.Cells.{slot_cells, cells_before, total}
 use Rattle.image_layout.specs.Image.{image_size}
@@ -89,12 +90,12 @@ use Rattle.reference.specs.Run.{
 
 -- 1. REFUSAL. The numbers that a data call can be refused with, in the order of the checks.
 abbrev pub data_refusals : List ℤ
-data_refusals = bad_handle.0 ∷ buffer_too_small.0 ∷ general_error.0 ∷ func_not_supported.0 ∷ []
+data_refusals = number_of bad_handle ∷ number_of buffer_too_small ∷ number_of general_error ∷ number_of func_not_supported ∷ []
 
 -- The numbers in draft 1.9 and in the later text; an unknown edition has -2 alone.
 abbrev pub in_editions : InEdition → List ℤ → List ℤ → List ℤ
 in_editions named draft later =
-    cond (is_draft named) draft (cond (is_known named) later (func_not_supported.0 ∷ []))
+    cond (is_draft named) draft (cond (is_known named) later (number_of func_not_supported ∷ []))
 
 -- A fast read has no number, and 0 stands there.
 abbrev pub access_refusals : Access → List ℤ → List ℤ
@@ -104,32 +105,32 @@ access_refusals (Write value) l = l
 
 abbrev pub query_refusals : Query → List ℤ
 query_refusals (FindPciDevice id index) =
-    in_editions id (bad_vendor_id.0 ∷ device_not_found.0 ∷ []) (device_not_found.0 ∷ [])
+    in_editions id (number_of bad_vendor_id ∷ number_of device_not_found ∷ []) (number_of device_not_found ∷ [])
 query_refusals (FindPciClasscode class index) =
-    in_editions class (device_not_found.0 ∷ []) (device_not_found.0 ∷ [])
-query_refusals (BusToCpu handle address) = bad_handle.0 ∷ []
-query_refusals (CpuToBus handle address) = bad_handle.0 ∷ []
-query_refusals (ListChain line index) = general_error.0 ∷ device_not_found.0 ∷ []
-query_refusals (GetCardUsed handle) = bad_handle.0 ∷ []
-query_refusals (SpecialCycle bus message) = func_not_supported.0 ∷ []
-query_refusals (GetRouting handle) = func_not_supported.0 ∷ []
-query_refusals (SetInterrupt handle mode) = func_not_supported.0 ∷ []
-query_refusals (ListWindow n) = device_not_found.0 ∷ []
+    in_editions class (number_of device_not_found ∷ []) (number_of device_not_found ∷ [])
+query_refusals (BusToCpu handle address) = number_of bad_handle ∷ []
+query_refusals (CpuToBus handle address) = number_of bad_handle ∷ []
+query_refusals (ListChain line index) = number_of general_error ∷ number_of device_not_found ∷ []
+query_refusals (GetCardUsed handle) = number_of bad_handle ∷ []
+query_refusals (SpecialCycle bus message) = number_of func_not_supported ∷ []
+query_refusals (GetRouting handle) = number_of func_not_supported ∷ []
+query_refusals (SetInterrupt handle mode) = number_of func_not_supported ∷ []
+query_refusals (ListWindow n) = number_of device_not_found ∷ []
 
 -- The numbers that a call can be refused with.
 abbrev pub refusals : Call → List ℤ
 refusals Load = pos 1 ∷ pos 2 ∷ pos 3 ∷ pos 4 ∷ pos 5 ∷ pos 6 ∷ pos 7 ∷ pos 8 ∷ []
-refusals Reset = buffer_too_small.0 ∷ []
+refusals Reset = number_of buffer_too_small ∷ []
 refusals WriteImage = pos 1 ∷ pos 3 ∷ []
 refusals (Config width handle register access) =
-    access_refusals access (bad_handle.0 ∷ bad_register_number.0 ∷ [])
+    access_refusals access (number_of bad_handle ∷ number_of bad_register_number ∷ [])
 refusals (Data space width handle address access) =
     access_refusals access (in_editions address data_refusals data_refusals)
-refusals (GetResource handle) = bad_handle.0 ∷ general_error.0 ∷ buffer_too_small.0 ∷ []
+refusals (GetResource handle) = number_of bad_handle ∷ number_of general_error ∷ number_of buffer_too_small ∷ []
 refusals (HookInterrupt handle handler parameter) =
-    bad_handle.0 ∷ general_error.0 ∷ set_failed.0 ∷ []
-refusals (UnhookInterrupt handle) = bad_handle.0 ∷ general_error.0 ∷ []
-refusals (SetCardUsed handle status call_back) = bad_handle.0 ∷ general_error.0 ∷ []
+    number_of bad_handle ∷ number_of general_error ∷ number_of set_failed ∷ []
+refusals (UnhookInterrupt handle) = number_of bad_handle ∷ number_of general_error ∷ []
+refusals (SetCardUsed handle status call_back) = number_of bad_handle ∷ number_of general_error ∷ []
 refusals (Ask query) = query_refusals query
 
 abbrev pub Among : ℤ → List ℤ → Type 0
@@ -235,8 +236,8 @@ addressed w handle register j =
 
 -- byte j of the cell buffer is one of the w cells of an access
 abbrev pub accessed : ℕ → CellTarget → ℕ → Bool
-accessed w (At at order) j = leb at j && ltb j (at + w)
-accessed w (Refused r) j = false
+accessed w (Ok c) j = leb c.at j && ltb j (c.at + w)
+accessed w (Err r) j = false
 
 abbrev pub nothing : Touch
 nothing = touch none false none false hooks_stay none none none

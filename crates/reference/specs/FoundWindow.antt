@@ -2,13 +2,11 @@
 -- exactly on its condition. A statement alone, proved in proofs/FoundWindow.antt; it joins what
 -- finding a window in a list means (crate data_window) with what the list means (window_list), so
 -- that it speaks of open windows and of no list.
-use Rattle.std.specs.Prelude.{ℕ, ◌-◌, ◌%◌, ◌<◌, ◌≤◌, true, false, ◌↔◌, ◌≡◌, length}
+use Rattle.std.specs.Prelude.{ℕ, ◌-◌, ◌%◌, ◌<◌, ◌≤◌, true, false, ◌↔◌, ◌≡◌, length, Ok, Err}
 use Rattle.window.specs.Window.{Window, end}
 use Rattle.window_list.specs.Meaning.{OpenAt, Contested as ContestedBy}
-use Rattle.data_window.specs.Find.{offers}
+use Rattle.data_window.specs.Find.{Finding, offers}
 use Rattle.data_window.specs.Meaning.{HeldBy}
-use Rattle.data_window.specs.declared.find.Finding.{Finding}
-use Rattle.data_window.specs.declared.find.Finding.TheVariants.{Found, Refused}
 use Rattle.data_window.specs.declared.refusal.DataRefusal.TheVariants.{
   UnknownEdition,
   BadHandle,
@@ -55,19 +53,19 @@ module _ (b : Reference) (w space handle address : ℕ) where
   -- the condition of each finding: its own check fails and none before it does, or none fails; the
   -- address is one of the bus, so that no edition is asked here
   abbrev pub Condition : Finding → Type 0
-  Condition (Refused UnknownEdition) = ⊥
-  Condition (Refused BadHandle) = is_handle_of b handle ≡ false
-  Condition (Refused ShortCells) = (is_handle_of b handle ≡ true) × (length b.cells < needed)
-  Condition (Refused NotAligned) =
+  Condition (Err UnknownEdition) = ⊥
+  Condition (Err BadHandle) = is_handle_of b handle ≡ false
+  Condition (Err ShortCells) = (is_handle_of b handle ≡ true) × (length b.cells < needed)
+  Condition (Err NotAligned) =
       (is_handle_of b handle ≡ true) × (needed ≤ length b.cells) × (address % w ≡ 0 → ⊥)
-  Condition (Refused Nothing) = Ready × ((v : Window) → Holder v → ⊥)
-  Condition (Refused Contested) = Ready × (v : Window) × Holder v × IsContested v
-  Condition (Refused WidthMissing) =
+  Condition (Err Nothing) = Ready × ((v : Window) → Holder v → ⊥)
+  Condition (Err Contested) = Ready × (v : Window) × Holder v × IsContested v
+  Condition (Err WidthMissing) =
       Ready × (v : Window) × Holder v × (IsContested v → ⊥) × (Offers v → ⊥)
-  Condition (Refused PastBuffer) = ⊥
-  Condition (Found base distance remaining) =
+  Condition (Err PastBuffer) = ⊥
+  Condition (Ok f) =
       Ready × (v : Window) × Holder v × (IsContested v → ⊥) × Offers v
-      × (base ≡ v.base) × (distance ≡ address - v.start) × (remaining ≡ end v - address)
+      × (f.base ≡ v.base) × (f.distance ≡ address - v.start) × (f.remaining ≡ end v - address)
 
 -- DATA GOES THROUGH A WINDOW, or is refused, exactly so
 abbrev pub FoundExactly : Type 0

@@ -17,7 +17,7 @@
 --   an image          record by record; the program copies all bytes at once
 --   good handles      1 to the count of records; the program reads the count in its header
 -- Claim 2 (Claims.antt) says that the two never differ.
-use Rattle.std.specs.Prelude.{ℕ, zero, suc, ◌+◌, ◌-◌, ◌*◌, ◌/◌, ◌%◌, ◌^◌, Bool, cond, not, ◌&&◌, List, [], ◌∷◌, ◌++◌, eqb, leb, ltb, pos, length, get_or, take, drop, replicate}
+use Rattle.std.specs.Prelude.{ℕ, zero, suc, ◌+◌, ◌-◌, ◌*◌, ◌/◌, ◌%◌, ◌^◌, Bool, cond, not, ◌&&◌, List, [], ◌∷◌, ◌++◌, eqb, leb, ltb, length, get_or, take, drop, replicate, Result, Ok, Err}
 use Rattle.numbers.specs.Numbers.{byte_at, bytes, big}
 use Rattle.board.specs.Layout.{
   bases,
@@ -29,6 +29,7 @@ use Rattle.board.specs.Layout.{
   base_register,
 }
 use Rattle.board.specs.Statuses.{successful, func_not_supported, buffer_too_small}
+use Rattle.board.specs.declared.status.CallRefusal.{CallRefusal}
 use Rattle.call_edition.specs.Edition.{bus_of}
 use Rattle.call_edition.specs.declared.edition.InEdition.{InEdition}
 use Rattle.window.specs.Window.{Window}
@@ -38,31 +39,27 @@ use Rattle.config_read.specs.Target.{target}
 use Rattle.config_read.specs.Read.{read_of, fast_read_of}
 use Rattle.config_masked.specs.Masked.{written}
 use Rattle.search.specs.Search.{sought_devices, sought_classes, sought_number}
-use Rattle.config_read.specs.declared.target.Target.{Target}
-use Rattle.config_read.specs.declared.target.Target.TheVariants.{Function, Refused}
-use Rattle.data_cells.specs.Cells.{cells_after}
+use Rattle.data_cells.specs.Cells.{CellTarget, cells_after}
 use Rattle.address_convert.specs.Convert.{to_cpu, to_bus}
 use Rattle.data_access.specs.Data.{read_at, fast_read_at}
 use Rattle.board.specs.Spaces.{space_number}
-use Rattle.data_window.specs.Find.{offers, find, status_of, if_known}
+use Rattle.data_window.specs.Find.{Finding, offers, find, refusal_of, if_known}
 use Rattle.data_order.specs.Orders.{cell_distance}
-use Rattle.data_window.specs.declared.find.Finding.{Finding}
-use Rattle.data_window.specs.declared.find.Finding.TheVariants.{Found, Refused as NoWindow}
-use Rattle.data_cells.specs.declared.target.CellTarget.{CellTarget}
-use Rattle.data_cells.specs.declared.target.CellTarget.TheVariants.{At, Refused as NoPlace}
 use Rattle.resource.specs.Resource.{Source, resource}
-use Rattle.interrupt_array.specs.Hooks.{Hook, hook, is_routed}
+use Rattle.interrupt_array.specs.Hooks.{hook, is_routed}
+use Rattle.interrupt_array.specs.declared.hooks.Hook.{Hook}
 use Rattle.interrupt_hook.specs.Chain.{hook_checks, unhook_checks}
 use Rattle.interrupt_hook.specs.Meaning.{is_among, without}
 use Rattle.interrupt_list.specs.Listing.{chain_number, chain_values}
-use Rattle.card_used.specs.Used.{Mark, new_mark, used_of, set_checks}
+use Rattle.card_used.specs.Used.{new_mark, used_of, set_checks}
+use Rattle.card_used.specs.declared.used.Mark.{Mark}
 use Rattle.cell_layout.specs.Cells.{cells_before, total, zeroed}
 use Rattle.image_layout.specs.Image.{image_record, image_size, count_of, records_of, sum, trailer}
 use Rattle.image_record.specs.Record.{record_ok}
 use Rattle.reset.specs.Reset.{first_register}
-use Rattle.image_refusals.specs.Refusals.{Facts, image_max, refused, is_accepted, first_refusal}
+use Rattle.image_refusals.specs.Refusals.{Facts, Verdict, image_max, accepted, refused, is_accepted, first_refusal}
+use Rattle.image_refusals.specs.declared.verdict.ImageRefusal.TheVariants.{Length, Count}
 use Rattle.image_check.specs.Check.{facts}
-use Rattle.image_refusals.specs.declared.verdict.Verdict.{Verdict}
 use Rattle.call.specs.declared.answer.Answer.{Answer}
 use Rattle.call.specs.declared.call.Call.{Call}
 use Rattle.call.specs.declared.call.Access.TheVariants.{Read, FastRead, Write}
@@ -91,19 +88,7 @@ use Rattle.call.specs.declared.call.Query.TheVariants.{
   SetInterrupt,
   ListWindow,
 }
-use Rattle.call.specs.Answers.{
-  answer,
-  zeros,
-  of_status,
-  of_verdict,
-  of_search,
-  of_read,
-  of_fast_read,
-  of_to_cpu,
-  of_to_bus,
-  of_chain,
-  of_used,
-}
+use Rattle.call.specs.Answers.{answer, of_status, of_verdict, of_search, of_read, of_fast_read, of_to_cpu, of_to_bus, of_chain, of_used}
 
 -- the loaded records one by one; registers by function and number; the whole cell buffer; each
 -- line's hooks in order; used marks by function
@@ -167,7 +152,7 @@ image_facts image =
 
 unfoldable pub image_verdict : List ℕ → ℕ → Verdict
 image_verdict image room =
-    cond (ltb image_max (length image)) (refused 1) (first_refusal (image_facts image) room)
+    cond (ltb image_max (length image)) (refused Length) (first_refusal (image_facts image) room)
 
 -- the window list, worked out afresh
 abbrev pub windows_of : Reference → List Window
@@ -182,7 +167,7 @@ abbrev pub is_handle_of : Reference → ℕ → Bool
 is_handle_of b handle = leb 1 handle && leb handle (length b.records)
 
 -- the function that a configuration access is for
-abbrev pub target_of : Reference → ℕ → ℕ → ℕ → Target
+abbrev pub target_of : Reference → ℕ → ℕ → ℕ → Result ℕ CallRefusal
 target_of b w handle register = target (is_handle_of b handle) w handle register
 
 -- the mask of a register of the function at place i; the clear mask, which status alone has, from
@@ -215,13 +200,11 @@ find_for b w space handle address =
 -- the first cell of an access, and the byte order: the cells of a window follow those of all
 -- windows before it
 unfoldable pub cell_target_at : Reference → ℕ → ℕ → Finding → CellTarget
-cell_target_at b w handle (Found base distance remaining) =
-    let order = entry_field b.records (handle - 1) base 1 in
-    At
-    (cells_before (exponent_of b.records) (bases * (handle - 1) + base)
-    + cell_distance order w distance)
-    order
-cell_target_at b w handle (NoWindow r) = NoPlace r
+cell_target_at b w handle (Ok f) =
+    let order = entry_field b.records (handle - 1) f.base 1 in
+    let begin = cells_before (exponent_of b.records) (bases * (handle - 1) + f.base) in
+    Ok (record { at = begin + cell_distance order w f.distance; order = order })
+cell_target_at b w handle (Err r) = Err r
 
 -- what the CPU sees of a function's bus addresses is above them by its offset
 abbrev pub offset_of : List (List ℕ) → ℕ → ℕ
@@ -285,17 +268,17 @@ pub record ReferenceOutcome : Type 0 where
 abbrev pub reference_outcome : Answer → Reference → List ℕ → ReferenceOutcome
 reference_outcome a b own = record { answer = a; reference = b; own = own }
 
-abbrev pub write_of : Reference → ℕ → ℕ → ℕ → List ℕ → Target → ReferenceOutcome
-write_of b w register value own (Function i) =
+abbrev pub write_of : Reference → ℕ → ℕ → ℕ → List ℕ → Result ℕ CallRefusal → ReferenceOutcome
+write_of b w register value own (Ok i) =
     reference_outcome (of_status successful)
     (with_registers_of (registers_after b w i register value) b) own
-write_of b w register value own (Refused s) = reference_outcome (of_status s) b own
+write_of b w register value own (Err r) = reference_outcome (of_status (Err r)) b own
 
 abbrev pub write_data_of : Reference → ℕ → ℕ → List ℕ → CellTarget → ReferenceOutcome
-write_data_of b w value own (At at order) =
+write_data_of b w value own (Ok c) =
     reference_outcome (of_status successful)
-    (with_cells_of (cells_after order w at value b.cells) b) own
-write_data_of b w value own (NoPlace r) = reference_outcome (of_status (status_of r)) b own
+    (with_cells_of (cells_after c.order w c.at value b.cells) b) own
+write_data_of b w value own (Err r) = reference_outcome (of_status (Err (refusal_of r))) b own
 
 -- a hook goes last on its line; an unhook takes its own out
 abbrev pub hook_of : Reference → ℕ → ℕ → ℕ → List ℕ → ReferenceOutcome
@@ -351,9 +334,9 @@ reference_step b Reset own =
     (reference_outcome (of_status successful) (fresh b.records b.cells) own)
 reference_step b WriteImage own =
     let n = length b.records in
-    cond (ltb (length own) (image_size n)) (reference_outcome (answer (pos 1) zeros) b own)
-    (cond (eqb n 0) (reference_outcome (answer (pos 3) zeros) b own)
-    (reference_outcome (answer (pos 0) zeros) b (image_bytes b.records ++ drop (image_size n) own)))
+    cond (ltb (length own) (image_size n)) (reference_outcome (of_verdict (refused Length)) b own)
+    (cond (eqb n 0) (reference_outcome (of_verdict (refused Count)) b own)
+    (reference_outcome (of_verdict accepted) b (image_bytes b.records ++ drop (image_size n) own)))
 reference_step b (Config width handle register Read) own =
     let target = target_of b (bytes width) handle register in
     reference_outcome (of_read (read_of b.registers (bytes width) register target)) b own

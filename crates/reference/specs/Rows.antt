@@ -2,13 +2,13 @@
 -- "Runs and the book"; request E1): the numbers that each call can be refused with, the fillers,
 -- what a call may touch, and which calls are struck out. A claim with a wider list would still
 -- hold; the rows hold the lists.
-use Rattle.std.specs.Prelude.{ℕ, Bool, true, false, List, [], ◌∷◌, ◌++◌, map, ◌≡◌, ℤ, pos, neg_ℤ, replicate}
+use Rattle.std.specs.Prelude.{ℕ, Bool, true, false, List, [], ◌∷◌, ◌++◌, map, ◌≡◌, ℤ, pos, neg_ℤ, replicate, Err}
 use Rattle.board.specs.Addresses.{bus, cpu}
 use Rattle.call_edition.specs.Edition.{in_edition, in_draft, in_later}
 use Rattle.board.specs.declared.space.Space.TheVariants.{Memory, Io}
 use Rattle.numbers.specs.declared.number.Width.TheVariants.{Byte, Word, Long}
 use Rattle.interrupt_array.specs.Hooks.{hook}
-use Rattle.data_cells.specs.declared.target.CellTarget.TheVariants.{At, Refused}
+use Rattle.data_cells.specs.Cells.{cells_from}
 use Rattle.data_window.specs.declared.refusal.DataRefusal.TheVariants.{BadHandle}
 use Rattle.call.specs.declared.call.Call.{Call}
 use Rattle.call.specs.declared.call.Access.TheVariants.{Read, FastRead, Write}
@@ -146,9 +146,9 @@ pub record ReferenceRows : Type 0 where
       ∷ Config Byte 2 0x27 Read ∷ Data Memory Byte 2 (in_later 0) (Write 1) ∷ Reset ∷ [])
       ≡ true ∷ false ∷ true ∷ false ∷ false ∷ true ∷ []
   -- a longword write from cell 4 on; a refused one has no cell
-  pub cells_accessed : map (accessed 4 (At 4 2)) (3 ∷ 4 ∷ 7 ∷ 8 ∷ [])
+  pub cells_accessed : map (accessed 4 (cells_from 4 2)) (3 ∷ 4 ∷ 7 ∷ 8 ∷ [])
       ≡ false ∷ true ∷ true ∷ false ∷ []
-  pub none_accessed : map (accessed 4 (Refused BadHandle)) (0 ∷ 4 ∷ []) ≡ false ∷ false ∷ []
+  pub none_accessed : map (accessed 4 (Err BadHandle)) (0 ∷ 4 ∷ []) ≡ false ∷ false ∷ []
   -- set used: its own mark; load and reset: all of them, a query none
   pub used_touched : map used_of (SetCardUsed 2 1 0 ∷ Reset ∷ Ask (GetCardUsed 2) ∷ [])
       ≡ (false ∷ false ∷ true ∷ true ∷ false ∷ [])

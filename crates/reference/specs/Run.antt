@@ -15,7 +15,8 @@ use Rattle.board.specs.Layout.{
   mark_size,
 }
 use Rattle.window_list.specs.Kept.{kept_list}
-use Rattle.interrupt_array.specs.Hooks.{Hook, last_line, packed}
+use Rattle.interrupt_array.specs.Hooks.{last_line, packed}
+use Rattle.interrupt_array.specs.declared.hooks.Hook.{Hook}
 use Rattle.card_used.specs.Used.{marks_of}
 use Rattle.cell_layout.specs.Cells.{offsets_of}
 use Rattle.load.specs.Load.{padded}

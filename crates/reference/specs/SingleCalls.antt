@@ -8,8 +8,7 @@ use Rattle.call_edition.specs.declared.edition.InEdition.{InEdition}
 use Rattle.board.specs.declared.space.Space.{Space}
 use Rattle.numbers.specs.Numbers.{bytes}
 use Rattle.numbers.specs.declared.number.Width.{Width}
-use Rattle.data_cells.specs.declared.target.CellTarget.{CellTarget}
-use Rattle.data_cells.specs.Cells.{cell_target}
+use Rattle.data_cells.specs.Cells.{CellTarget, cell_target}
 use Rattle.data_access.specs.Meaning.{HasCell}
 use Rattle.image_layout.specs.Image.{image_size, count_of}
 use Rattle.call.specs.declared.answer.Answer.{Answer}

@@ -1,7 +1,7 @@
 -- What the program does: each call by the definition that its contract states, on the lent parts.
 -- `perform` of the crate dispatch is proved to do this step, so that the claims, which speak of the
 -- step, hold of the program. No rule of document 01 is said here.
-use Rattle.std.specs.Prelude.{ℕ, List, pos, length, replicate}
+use Rattle.std.specs.Prelude.{ℕ, List, length, replicate}
 use Rattle.board.specs.Parts.{Parts, with_registers, with_cells, with_hooks, with_used}
 use Rattle.board.specs.Handles.{function_count}
 use Rattle.board.specs.Layout.{register_byte}
@@ -55,19 +55,7 @@ use Rattle.call.specs.declared.call.Query.TheVariants.{
   SetInterrupt,
   ListWindow,
 }
-use Rattle.call.specs.Answers.{
-  answer,
-  zeros,
-  of_status,
-  of_verdict,
-  of_search,
-  of_read,
-  of_fast_read,
-  of_to_cpu,
-  of_to_bus,
-  of_chain,
-  of_used,
-}
+use Rattle.call.specs.Answers.{answer, of_status, of_verdict, of_search, of_read, of_fast_read, of_to_cpu, of_to_bus, of_chain, of_used}
 
 -- the answer, the lent parts, and the call's own buffer
 pub record Outcome : Type 0 where
@@ -165,7 +153,7 @@ step p Load own = let w = load p own in outcome (of_verdict w.verdict) w.parts o
 step p Reset own = let w = reset p in outcome (of_status w.status) w.parts own
 step p WriteImage own =
     let w = write_image p.header p.records own in
-    outcome (answer (pos w.number) zeros) p w.out
+    outcome (of_verdict w.verdict) p w.out
 step p (Config width handle register access) own =
     let w = config_access p.header p.records p.registers p.windows
     width handle register access in

@@ -1,118 +1,76 @@
 // The calls of a trace, one by one: each is read into one room, performed there as the front of a
 // script, and printed.
-ghost use Rattle.std.specs.Prelude.{◌≡◌, length};
-
-use crate::forms::{CALLS, MALFORMED, OWN_ABOVE, form_line, print};
-use crate::read::read_full;
-use board::layout::{
-    CellOffsets, FUNCTIONS, HOOK, Header, Hooks, MARK, RECORD, REGISTER_BYTES, Records, Registers,
-    Used, WINDOWS, Windows,
-};
+use crate::answers::print_answer;
+use crate::forms::print_call;
+use crate::stop::Stop;
+use board::layout::{FUNCTIONS, HEADER, HOOK, MARK, RECORD, REGISTER_BYTES, WINDOWS};
+use board::parts::Board;
 use call_encoding::decode::{Decoded, decode};
-use call_encoding::encode::{CALL_HEADER, OWN_LENGTH};
-use numbers::number::{Width, big_at};
+use call_encoding::encode::CALL_HEADER;
+use full_read::read_full;
 use script::turn::turn;
-use std::io;
 use std::io::{Read, Write};
 
 // The longest own buffer of a call in a trace.
 const OWN: usize = 65537;
 
-// A header as it was read: in the room the answer is written over it.
-type RequestHeader = [u8; CALL_HEADER];
+type Room = [u8; CALL_HEADER + OWN];
 
-// Reads the own buffer of the call whose header stands in the room. Gives the line that is printed
-// where the call is none, else 0.
-fn read_own<R: Read>(input: &mut R, room: &mut [u8], own: u32) -> io::Result<u32>
-    requires { 65601 ≡ length room.old }
-{
-    let end = CALL_HEADER + own as usize;
-    if room.len() < end {
-        return Ok(OWN_ABOVE);
-    }
-    if read_full(input, &mut room[CALL_HEADER..end])? < own as usize {
-        return Ok(MALFORMED);
-    }
-    Ok(0)
-}
-
-// Reads the next call, its header into `request` and the whole into the room; gives as above.
-fn read_call<R: Read>(
-    input: &mut R,
-    request: &mut RequestHeader,
-    room: &mut [u8],
-) -> io::Result<u32>
-    requires { 65601 ≡ length room.old }
-{
-    let got = read_full(input, request)?;
+// Reads the next call into the room, of a script from whose byte `at` on it stands; none where the
+// script ends.
+fn read_call<R: Read>(input: &mut R, room: &mut Room, at: u64) -> Result<Option<Decoded>, Stop> {
+    let got = read_full(input, &mut room[..CALL_HEADER])?;
     if got == 0 {
-        return Ok(CALLS);
+        return Ok(None);
     }
     if got < CALL_HEADER {
-        return Ok(MALFORMED);
+        return Err(Stop::Malformed(at));
     }
-    match decode(request) {
-        Decoded::Known { call: _, own } => {
-            room[..CALL_HEADER].copy_from_slice(request);
-            read_own(input, room, own)
-        }
-        Decoded::Malformed => Ok(MALFORMED),
+    let Some(said) = decode(&room[..CALL_HEADER]) else {
+        return Err(Stop::Malformed(at));
+    };
+    let own = said.own as usize;
+    if OWN < own {
+        return Err(Stop::OwnAbove(at));
     }
+    if read_full(input, &mut room[CALL_HEADER..CALL_HEADER + own])? < own {
+        return Err(Stop::Malformed(at));
+    }
+    Ok(Some(said))
 }
 
-// Prints a call that was performed in place.
-fn print_call<W: Write>(out: &mut W, request: &RequestHeader, call: &[u8]) -> io::Result<()> {
-    let own = big_at(request, OWN_LENGTH, Width::Long);
-    print(out, form_line(request, call), own as u64, request, call)
-}
-
-// Prints the last line: with the calls where the script ended, else with the position where the
-// replay stops.
-fn print_end<W: Write>(out: &mut W, line: u32, calls: u64, at: u64) -> io::Result<()> {
-    if line == CALLS {
-        print(out, line, calls, b"", b"")
-    } else {
-        print(out, line, at, b"", b"")
-    }
-}
-
-// Performs and prints the calls up to the end of the input, from the board before the first load. A
-// proved loop has to end, and nothing says that the input does: so it counts calls up to a number
-// that no trace reaches.
+// Performs and prints the calls up to the end of the input, from the board before the first load;
+// gives how many there are. A proved loop has to end, and nothing says that the input does: so it
+// counts calls up to a number that no trace reaches.
 pub(crate) fn replay<R: Read, W: Write>(
     input: &mut R,
     out: &mut W,
     cells: &mut [u8],
-) -> io::Result<()> {
-    let mut request: RequestHeader = [0u8; CALL_HEADER];
-    let mut room = [0u8; CALL_HEADER + OWN];
-    let mut header: Header = [0u32; 4];
-    let mut records: Records = [0u8; FUNCTIONS * RECORD];
-    let mut registers: Registers = [0u8; FUNCTIONS * REGISTER_BYTES];
-    let mut windows: Windows = [0u64; WINDOWS];
-    let mut offsets: CellOffsets = [0u32; WINDOWS + 1];
-    let mut hooks: Hooks = [0u32; HOOK * FUNCTIONS];
-    let mut used: Used = [0u32; MARK * FUNCTIONS];
+) -> Result<u64, Stop> {
+    let mut room: Room = [0u8; CALL_HEADER + OWN];
+    let mut board = Board {
+        header: &mut [0; HEADER],
+        records: &mut [0; FUNCTIONS * RECORD],
+        registers: &mut [0; FUNCTIONS * REGISTER_BYTES],
+        windows: &mut [0; WINDOWS],
+        offsets: &mut [0; WINDOWS + 1],
+        hooks: &mut [0; HOOK * FUNCTIONS],
+        used: &mut [0; MARK * FUNCTIONS],
+        cells: cells,
+    };
     let mut at: u64 = 0;
     // Invariant: the room and the cells keep their lengths.
     for calls in 0..u64::MAX {
-        let line = read_call(input, &mut request, &mut room)?;
-        if line != 0 {
-            return print_end(out, line, calls, at);
-        }
-        let took = turn(
-            &mut room,
-            &mut header,
-            &mut records,
-            &mut registers,
-            &mut windows,
-            &mut offsets,
-            &mut hooks,
-            &mut used,
-            cells,
-        );
-        print_call(out, &request, &room)?;
+        let Some(Decoded { call, own }) = read_call(input, &mut room, at)? else {
+            return Ok(calls);
+        };
+        let Some(took) = turn(&mut room, &mut board) else {
+            return Err(Stop::Malformed(at));
+        };
+        print_call(out, call, own)?;
+        let (answer, left) = room.split_at(CALL_HEADER);
+        print_answer(out, call, answer, left)?;
         at = at.wrapping_add(took as u64);
     }
-    Ok(())
+    Ok(u64::MAX)
 }

@@ -1,44 +1,34 @@
 // The descriptors that a call left in its own buffer.
-use crate::print::{decimal, hexadecimal, text};
 use board::layout::BASES;
 use resource_descriptor::descriptor::Descriptor;
-use resource_walk::step::{Step, descriptor_step};
+use resource_walk::step::descriptor_step;
 use std::io;
 use std::io::Write;
 
 // The fields of a descriptor in their order.
 fn fields<W: Write>(out: &mut W, d: Descriptor) -> io::Result<()> {
-    text(out, b"next ")?;
-    decimal(out, d.next as u64)?;
-    text(out, b" flags 0x")?;
-    hexadecimal(out, d.flags as u32, 2)?;
-    text(out, b" start 0x")?;
-    hexadecimal(out, d.start, 4)?;
-    text(out, b" length 0x")?;
-    hexadecimal(out, d.length, 4)?;
-    text(out, b" offset 0x")?;
-    hexadecimal(out, d.offset, 4)?;
-    text(out, b" dmaoffset 0x")?;
-    hexadecimal(out, d.dmaoffset, 4)
+    write!(out, "next {} flags 0x{:04x} ", d.next, d.flags)?;
+    write!(out, "start 0x{:08x} length 0x{:08x} ", d.start, d.length)?;
+    write!(
+        out,
+        "offset 0x{:08x} dmaoffset 0x{:08x}",
+        d.offset, d.dmaoffset
+    )
 }
 
-// The descriptors from a position on, up to the last mark; a function has no more of them than base
-// registers.
-pub(crate) fn descriptors<W: Write>(out: &mut W, bytes: &[u8], from: usize) -> io::Result<()> {
-    let mut at = from;
-    for n in 0..BASES {
-        let Step::Found {
-            descriptor,
-            following,
-        } = descriptor_step(bytes, at)
-        else {
-            return Ok(());
+// The descriptors from the first byte on, up to the last mark; a function has no more of them than
+// base registers.
+pub(crate) fn descriptors<W: Write>(out: &mut W, bytes: &[u8]) -> io::Result<()> {
+    let mut between = "";
+    let mut at = 0;
+    for _ in 0..BASES {
+        let Some(step) = descriptor_step(bytes, at) else {
+            break;
         };
-        if 0 < n {
-            text(out, b"; ")?;
-        }
-        fields(out, descriptor)?;
-        at = following;
+        write!(out, "{between}")?;
+        fields(out, step.descriptor)?;
+        at = step.following;
+        between = "; ";
     }
     Ok(())
 }

@@ -1,16 +1,11 @@
 -- Laws of lists: cells zeroed.
-use Prim.Native.Nat.{ℕ, zero, suc, ◌+◌, ◌-◌, ◌<◌, ◌≤◌}
+use Prim.Native.Nat.{ℕ, ◌+◌, ◌-◌, ◌≤◌}
 use native.Mathlib.Omega.{arith}
-use mathlib.Core.Path.{◌≡◌, refl, sym, ◌∙◌, ap}
-use mathlib.Core.List.{List, [], ◌∷◌}
-use lib.ListN.{length, get_or, drop, set, replicate, length-append, length-replicate, length-drop}
+use mathlib.Core.Path.{◌≡◌, sym, ◌∙◌, ap}
+use mathlib.Core.List.{List}
+use lib.ListN.{length, get_or, drop, replicate, length-append, length-replicate, length-drop}
 use lib.Seq.{get_or-append-add, get_or-drop}
 use Rattle.cell_layout.specs.Cells.{zeroed}
-
-pub zeroed_more : (i : ℕ) (l : List ℕ) → i < length l → set (zeroed i l) i 0 ≡ zeroed (suc i) l
-zeroed_more i [] h = absurd (omega arith)
-zeroed_more zero (x ∷ l) h = refl
-zeroed_more (suc i) (x ∷ l) h = ap (λ (m : List ℕ). 0 ∷ m) (zeroed_more i l (omega arith))
 
 pub zeroed_length : (n : ℕ) (l : List ℕ) → n ≤ length l → length (zeroed n l) ≡ length l
 zeroed_length n l h = length-append (replicate n 0) (drop n l) ∙ rw (length-replicate {A = ℕ} n 0, length-drop n l) (omega arith)

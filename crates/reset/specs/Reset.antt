@@ -1,8 +1,7 @@
 -- Reset, and what load and reset have in common: document 01, "The modelled board" and, for the
 -- refusal, "Numbers handed back".
 use Rattle.std.specs.Prelude.{ℕ, ◌*◌, ◌/◌, ◌%◌, cond, List, ltb, length, get_or, replicate}
-use Rattle.board.specs.Statuses.{successful, buffer_too_small}
-use Rattle.board.specs.declared.status.Status.{Status}
+use Rattle.board.specs.Statuses.{Status, successful, buffer_too_small}
 use Rattle.numbers.specs.Tables.{table}
 use Rattle.board.specs.Parts.{Parts, parts}
 use Rattle.board.specs.Layout.{

@@ -3,6 +3,7 @@
 -- back".
 use Rattle.std.specs.Prelude.{ℕ, ◌+◌, ◌*◌, ◌<◌, ◌≤◌, [], ◌∷◌, ◌++◌, map, ◌≡◌, pos, neg_ℤ, length, get_or, replicate}
 use Rattle.board.specs.Parts.{Parts, parts}
+use Rattle.board.specs.Statuses.{number_of}
 use Rattle.window_list.specs.Windows.{window_list}
 use Rattle.window_list.specs.Kept.{kept_list}
 use Rattle.reset.specs.Reset.{reset}
@@ -16,7 +17,7 @@ board n =
 
 pub record ResetRows : Type 0 where
   -- -7 cells shorter than the board's total; a refused reset leaves everything
-  pub statuses : map (λ n. (reset (board n)).status.0) (0 ∷ 3 ∷ 4 ∷ 5 ∷ [])
+  pub statuses : map (λ n. number_of (reset (board n)).status) (0 ∷ 3 ∷ 4 ∷ 5 ∷ [])
       ≡ neg_ℤ (pos 7) ∷ neg_ℤ (pos 7) ∷ pos 0 ∷ pos 0 ∷ []
   pub stays : (reset (board 3)).parts ≡ board 3
   -- as many cells zero as the windows need; those past the total are never written

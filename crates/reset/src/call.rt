@@ -5,10 +5,11 @@ ghost use Rattle.reset.specs.Reset.{reset_outcome, reset};
 
 use crate::restart::restart;
 use board::layout::{CellOffsets, Header, Hooks, Records, Registers, Used, WINDOWS, Windows};
-use board::status::Status;
-use numbers::number::u32_at;
+use board::status::{CallRefusal, Status};
 
-// The board as loaded; refused where the cells are shorter than its total.
+// The board as loaded; refused where the cells are shorter than its total. It takes the parts one
+// by one, as C lends header, records and offsets to be read only.
+#[tactic(auto, unfolding(crate::specs::Reset::reset))]
 pub fn reset(
     header: &Header,
     records: &Records,
@@ -26,11 +27,11 @@ pub fn reset(
         header.now records.now registers.old windows.old
         offsets.now hooks.old used.old cells.old) }
 {
-    if cells.len() < u32_at(offsets, WINDOWS) as usize {
-        return Status::BUFFER_TOO_SMALL;
+    if cells.len() < offsets[WINDOWS] as usize {
+        return Err(CallRefusal::BufferTooSmall);
     }
     restart(
         header, records, registers, windows, offsets, hooks, used, cells,
     );
-    Status::SUCCESSFUL
+    Ok(())
 }

@@ -13,7 +13,6 @@ use borrow.Author.Tests.{eq-eqb, eqb-true, eqb-false, ltb-false}
 use Rattle.board.specs.Handles.{is_handle}
 use Rattle.board.specs.Layout.{bases}
 use Rattle.board.specs.Statuses.{successful, buffer_too_small, general_error, bad_handle}
-use Rattle.board.specs.declared.status.Status.{Status}
 use Rattle.numbers.proofs.Stores.{sets_other}
 use Rattle.window.specs.Window.{register_space}
 use Rattle.resource_descriptor.specs.declared.descriptor.Descriptor.{Descriptor}
@@ -111,9 +110,9 @@ module _ (records registers windows : List ℕ) (handle : ℕ) (out : List ℕ) 
         room = ltb-false (length out) (size * length bs) f;
         written = refl;
       }
-  accepted true false true e f h = absurd (let w : ◌≡◌ {A = ℕ} 0 1 = cc (ap (λ (x : Status). x.0) h) in omega arith)
-  accepted true true t e f h = absurd (let w : ◌≡◌ {A = ℕ} 0 1 = cc (ap (λ (x : Status). x.0) h) in omega arith)
-  accepted false z t e f h = absurd (let w : ◌≡◌ {A = ℕ} 0 1 = cc (ap (λ (x : Status). x.0) h) in omega arith)
+  accepted true false true e f h = absurd cc
+  accepted true true t e f h = absurd cc
+  accepted false z t e f h = absurd cc
 
   pub call_accepted : (header : List ℕ) → (get_resource header records registers windows handle out).status ≡ successful
       → Accepted (get_resource header records registers windows handle out)

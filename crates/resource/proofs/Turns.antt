@@ -8,6 +8,7 @@ use lib.Dec.{eqb}
 use lib.ListN.{length}
 use lib.Seq.{sets}
 use borrow.Author.Tests.{eq-eqb, ne_eqb}
+use Rattle.std.specs.List.{filter, range_with_len}
 use Rattle.board.specs.Layout.{bases}
 use Rattle.resource_descriptor.specs.Descriptor.{size, descriptor_bytes, descriptors_bytes}
 use Rattle.window.specs.Window.{is_window}
@@ -27,6 +28,12 @@ module _ (k : ℕ → ℕ) (b : ℕ) where
   pub windows_end : bases ≤ b → windows_from k (bases - b) b ≡ []
   unfolding windows_from
   windows_end h = let e : bases - b ≡ 0 = omega arith in rw e
+
+-- those that have a window in std's words
+pub windows_filtered : (k : ℕ → ℕ) (n b : ℕ) → windows_from k n b ≡ filter (λ j. is_window (k j)) (range_with_len b n)
+unfolding windows_from
+windows_filtered k zero b = refl
+windows_filtered k (suc n) b = rw (windows_filtered k n (b + 1))
 
 -- of n base registers at most n have a window
 pub windows_few : (k : ℕ → ℕ) (n b : ℕ) → length (windows_from k n b) ≤ n

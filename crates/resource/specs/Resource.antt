@@ -13,8 +13,7 @@ use Rattle.board.specs.Layout.{
   register_byte,
   base_register,
 }
-use Rattle.board.specs.Statuses.{successful, buffer_too_small, general_error, bad_handle}
-use Rattle.board.specs.declared.status.Status.{Status}
+use Rattle.board.specs.Statuses.{Status, successful, buffer_too_small, general_error, bad_handle}
 use Rattle.window.specs.Kept.{unpacked}
 use Rattle.window.specs.Window.{Window, register_space, is_window}
 use Rattle.window_start.specs.Start.{start_in}

@@ -1,7 +1,7 @@
 -- Rows with literal numbers of document 01, "Numbers handed back", Resource, and "Descriptors": the
 -- calls of a small board.
 use Rattle.std.specs.Prelude.{ℕ, List, [], ◌∷◌, ◌++◌, map, ◌≡◌, pos, neg_ℤ, get_or, replicate}
-use Rattle.board.specs.Statuses.{minus}
+use Rattle.board.specs.Statuses.{number_of}
 use Rattle.window.specs.Kept.{pack}
 use Rattle.window.specs.Rows.{mem, clear, contested}
 use Rattle.resource_descriptor.specs.declared.descriptor.Descriptor.{Descriptor}
@@ -54,16 +54,19 @@ shown = descriptors (source_of records registers windows 2)
 
 pub record ResourceRows : Type 0 where
   -- -9, also where there are no windows (4) or their descriptors do not fit (0)
-  pub bad_handle : map (λ h. (called h []).status) (0 ∷ 4 ∷ []) ≡ minus 9 ∷ minus 9 ∷ []
+  pub bad_handle : map (λ h. number_of (called h []).status) (0 ∷ 4 ∷ [])
+      ≡ neg_ℤ (pos 9) ∷ neg_ℤ (pos 9) ∷ []
   -- -8 no windows, also where no descriptor would fit
   pub no_windows :
-      map (λ n. (called 3 (replicate n 0xEE)).status) (0 ∷ 19 ∷ 20 ∷ [])
-      ≡ minus 8 ∷ minus 8 ∷ minus 8 ∷ []
+      map (λ n. number_of (called 3 (replicate n 0xEE)).status) (0 ∷ 19 ∷ 20 ∷ [])
+      ≡ neg_ℤ (pos 8) ∷ neg_ℤ (pos 8) ∷ neg_ℤ (pos 8) ∷ []
   -- -7: two windows take 40 bytes, four take 80
   pub room1 :
-      map (λ n. (called 1 (replicate n 0xEE)).status.0) (39 ∷ 40 ∷ []) ≡ neg_ℤ (pos 7) ∷ pos 0 ∷ []
+      map (λ n. number_of (called 1 (replicate n 0xEE)).status) (39 ∷ 40 ∷ [])
+      ≡ neg_ℤ (pos 7) ∷ pos 0 ∷ []
   pub room2 :
-      map (λ n. (called 2 (replicate n 0xEE)).status.0) (79 ∷ 80 ∷ []) ≡ neg_ℤ (pos 7) ∷ pos 0 ∷ []
+      map (λ n. number_of (called 2 (replicate n 0xEE)).status) (79 ∷ 80 ∷ [])
+      ≡ neg_ℤ (pos 7) ∷ pos 0 ∷ []
   -- a refused call leaves the buffer
   pub refused :
       map (λ h. (called h (1 ∷ 2 ∷ 3 ∷ [])).out) (0 ∷ 3 ∷ 2 ∷ [])

@@ -20,27 +20,25 @@ use board::layout::{
     BASES, Header, Records, Registers, Windows, base_register, byte_order, dma_offset, exponent,
     offset, widths,
 };
-use board::status::Status;
+use board::status::{CallRefusal, Status};
 use resource_descriptor::descriptor::{Descriptor, NEXT, SIZE, flags, put};
 use window::decode::{is_window, window_length};
 use window_start::start::start_in;
+
+// Whether a base register of a function has a window.
+fn has_window(records: &Records, function: u32, base: u8) -> bool
+    ensures { result ≡ is_window (exponent records.now function base) }
+{
+    is_window(exponent(records, function, base))
+}
 
 // How many windows a function has.
 fn window_count(records: &Records, function: u32) -> usize
     ensures { result ≡ length (window_bases (exponent records.now function)) }
 {
-    let mut n = 0;
-    let mut b = 0;
-    // Invariant: n is at most b, and n and the windows from b on count all windows.
-    while b < BASES as u8 {
-        let k = exponent(records, function, b);
-        b += 1;
-        if !is_window(k) {
-            continue;
-        }
-        n += 1;
-    }
-    n
+    (0..BASES as u8)
+        .filter(|base| has_window(records, function, *base))
+        .count()
 }
 
 // The descriptor of the window of a base register.
@@ -91,12 +89,9 @@ fn put_all(
 {
     let function = place(handle);
     let mut n = 0;
-    let mut b = 0;
-    // Invariant: count - n windows are left from b on; their descriptors at 20 n make the whole.
-    while b < BASES as u8 {
-        let base = b;
-        b += 1;
-        if !is_window(exponent(records, function, base)) {
+    // Invariant: count - n windows are left from base on; their descriptors at 20 n make the whole.
+    for base in 0..BASES as u8 {
+        if !has_window(records, function, base) {
             continue;
         }
         let d = descriptor_of(records, registers, windows, handle, n + 1 == count, base);
@@ -106,6 +101,7 @@ fn put_all(
 }
 
 // Fills a lent buffer with the descriptors of a function's windows.
+#[tactic(auto, unfolding(crate::specs::Resource::resource))]
 pub fn get_resource(
     header: &Header,
     records: &Records,
@@ -119,18 +115,16 @@ pub fn get_resource(
         header.now records.now registers.now windows.now
         handle out.old }
 {
-    let good = is_handle(header, handle);
+    if !is_handle(header, handle) {
+        return Err(CallRefusal::BadHandle);
+    }
     let count = window_count(records, place(handle));
-    let short = out.len() < SIZE * count;
-    if !good {
-        return Status::BAD_HANDLE;
-    }
     if count == 0 {
-        return Status::GENERAL_ERROR;
+        return Err(CallRefusal::GeneralError);
     }
-    if short {
-        return Status::BUFFER_TOO_SMALL;
+    if out.len() < SIZE * count {
+        return Err(CallRefusal::BufferTooSmall);
     }
     put_all(records, registers, windows, handle, count, out);
-    Status::SUCCESSFUL
+    Ok(())
 }

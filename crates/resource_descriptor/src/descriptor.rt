@@ -40,17 +40,17 @@ fn mark(on: bool, value: u16) -> u16
 fn shown_order(order: u8) -> u16
     ensures { (result ≡ shown_order order) × (result ≤ 15) }
 {
-    if (order == 1) | ((order == 2) | (order == 15)) {
-        return order as u16;
+    match order {
+        1 | 2 | 15 => u16::from(order),
+        _ => 0,
     }
-    0
 }
 
 // The flags of a window.
 pub fn flags(last: bool, io: bool, widths: u8, order: u8) -> u16
     ensures { result ≡ flags last io widths order }
 {
-    mark(last, LAST) + (mark(io, IO) + (WIDTHS * (widths % 8) as u16 + shown_order(order)))
+    mark(last, LAST) + (mark(io, IO) + (WIDTHS * u16::from(widths % 8) + shown_order(order)))
 }
 
 // Stores the bytes of a descriptor; those past the end of the output are left out.
@@ -60,8 +60,8 @@ pub fn put(out: &mut [u8], at: usize, d: Descriptor)
     if out.len() <= at {
         return;
     }
-    put_big(out, at, Width::Word, d.next as u32);
-    put_big(out, at + 2, Width::Word, d.flags as u32);
+    put_big(out, at, Width::Word, u32::from(d.next));
+    put_big(out, at + 2, Width::Word, u32::from(d.flags));
     put_big(out, at + 4, Width::Long, d.start);
     put_big(out, at + 8, Width::Long, d.length);
     put_big(out, at + 12, Width::Long, d.offset);

@@ -3,6 +3,7 @@ use Prim.Native.Nat.{ℕ, suc, ◌+◌, ◌<◌, ◌≤◌}
 use native.Mathlib.Omega.{arith}
 use native.Mathlib.Nat.{zero-add}
 use mathlib.Core.Bool.{Bool, true, false, cond}
+use Rattle.std.specs.Prelude.{Option, Some}
 use mathlib.Core.List.{List, [], ◌∷◌, ◌++◌, append_assoc}
 use mathlib.Core.Path.{◌≡◌, refl, sym, ◌∙◌, ap}
 use lib.Dec.{eqb, eqb-suc-zero}
@@ -13,10 +14,9 @@ use Rattle.board.specs.Layout.{bases}
 use Rattle.window.specs.Window.{register_space}
 use Rattle.resource_descriptor.specs.declared.descriptor.Descriptor.{Descriptor}
 use Rattle.resource_walk.specs.declared.step.Step.{Step}
-use Rattle.resource_walk.specs.declared.step.Step.TheVariants.{Found}
 use Rattle.resource_descriptor.specs.Descriptor.{size, descriptor_bytes, descriptors_bytes, is_last}
 use Rattle.resource.specs.Resource.{window_bases, Source, descriptor_of, described, descriptors, source_of}
-use Rattle.resource_walk.specs.Walk.{following, step_at, handed, walk}
+use Rattle.resource_walk.specs.Walk.{following, step, step_at, handed, walk}
 use Rattle.resource_walk.specs.Meaning.{WalkBack}
 use Rattle.resource_descriptor.proofs.Fields.{bytes_size}
 use Rattle.resource.proofs.Back.{Small, fields_back, last_flag, parts_small}
@@ -30,23 +30,23 @@ leads n at d false e f = rw (f, e)
 
 step_back : (d : Descriptor) (last : Bool) → Small d → d.next ≡ size → is_last d ≡ last → (before after : List ℕ)
     → step_at (before ++ (descriptor_bytes d ++ after)) (length before)
-    ≡ Found d (cond last (length (before ++ (descriptor_bytes d ++ after))) (length before + size))
+    ≡ Some (step d (cond last (length (before ++ (descriptor_bytes d ++ after))) (length before + size)))
 step_back d last small e f before after =
     let l = before ++ (descriptor_bytes d ++ after) in
     let h : length before + size ≤ length l = rw (length-append before (descriptor_bytes d ++ after), length-append (descriptor_bytes d) after, bytes_size d) (omega arith) in
     rw (le-leb (length before + size) (length l) h)
-    (ap (λ (t : Descriptor). Found t (following (length l) (length before) t)) (fields_back d small before after)
-    ∙ ap (Found d) (leads (length l) (length before) d last e f))
+    (ap (λ (t : Descriptor). Some (step t (following (length l) (length before) t))) (fields_back d small before after)
+    ∙ ap (λ (n : ℕ). Some (step d n)) (leads (length l) (length before) d last e f))
 
 walk_one : (d : Descriptor) (last : Bool) → Small d → d.next ≡ size → is_last d ≡ last → (before after : List ℕ)
     → walk (before ++ (descriptor_bytes d ++ after)) (length before)
     ≡ d ∷ walk (before ++ (descriptor_bytes d ++ after)) (cond last (length (before ++ (descriptor_bytes d ++ after))) (length before + size))
 walk_one d last small e f before after =
     let l = before ++ (descriptor_bytes d ++ after) in
-    walk_steps l (length before) ∙ ap (λ (t : Step). handed t (walk l)) (step_back d last small e f before after)
+    walk_steps l (length before) ∙ ap (λ (t : Option Step). handed t (walk l)) (step_back d last small e f before after)
 
 walk_end : (l : List ℕ) → walk l (length l) ≡ []
-walk_end l = walk_steps l (length l) ∙ ap (λ (t : Step). handed t (walk l)) (step_none l (length l) (omega arith))
+walk_end l = walk_steps l (length l) ∙ ap (λ (t : Option Step). handed t (walk l)) (step_none l (length l) (omega arith))
 
 module _ (s : Source) where
   is_last_lem : (last : Bool) (b : ℕ) → is_last (descriptor_of s last b) ≡ last

@@ -1,9 +1,8 @@
 -- What a walk through descriptors means, without the proofs: document 01, "Descriptors".
-use Rattle.std.specs.Prelude.{ℕ, ◌-◌, ◌*◌, ◌≤◌, List, ◌≡◌, length, drop}
+use Rattle.std.specs.Prelude.{ℕ, ◌-◌, ◌*◌, ◌≤◌, List, ◌≡◌, length, drop, None}
 use Rattle.board.specs.Statuses.{successful}
 use Rattle.resource_descriptor.specs.Descriptor.{size}
 use Rattle.resource.specs.Resource.{descriptors, source_of, get_resource}
-use Rattle.resource_walk.specs.declared.step.Step.TheVariants.{Ended}
 use Rattle.resource_walk.specs.Walk.{step_at, handed, walk, stands}
 
 -- a walk from a position: it is its first step and the walk from there; it ends, as each step
@@ -12,7 +11,7 @@ pub record Walks (bytes : List ℕ) (at : ℕ) : Type 0 where
   pub steps : walk bytes at ≡ handed (step_at bytes at) (walk bytes)
   pub few : size * length (walk bytes at) ≤ length bytes - at
   pub further : (n : ℕ) → walk bytes (stands n bytes at) ≡ drop n (walk bytes at)
-  pub ended : step_at bytes at ≡ Ended → (n : ℕ) → step_at bytes (stands n bytes at) ≡ Ended
+  pub ended : step_at bytes at ≡ None → (n : ℕ) → step_at bytes (stands n bytes at) ≡ None
 
 abbrev pub WalkMeans : Type 0
 WalkMeans = (bytes : List ℕ) (at : ℕ) → Walks bytes at

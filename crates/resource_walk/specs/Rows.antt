@@ -1,9 +1,8 @@
 -- Rows with literal numbers of document 01, "Descriptors", last sentence: walks through 60 bytes.
-use Rattle.std.specs.Prelude.{ℕ, List, [], ◌∷◌, ◌++◌, map, ◌≡◌, take}
+use Rattle.std.specs.Prelude.{ℕ, List, [], ◌∷◌, ◌++◌, map, ◌≡◌, take, Some}
 use Rattle.numbers.specs.Numbers.{big_bytes}
 use Rattle.numbers.specs.Tables.{table_from}
-use Rattle.resource_walk.specs.declared.step.Step.TheVariants.{Found}
-use Rattle.resource_walk.specs.Walk.{step_at, walk, stands}
+use Rattle.resource_walk.specs.Walk.{step, step_at, walk, stands}
 
 -- 60 bytes that begin with next and flags; each byte after them is its own position, so that the
 -- next field at 20 is 1415h, the one at 21 is 1516h
@@ -34,7 +33,8 @@ pub record ResourceWalkRows : Type 0 where
   -- all fields at a position, and the position after them: 30 + 1E1Fh
   pub fields :
       step_at (starting 20 0) 30
-      ≡ Found
+      ≡ Some
+      (step
       (record {
         next = 0x1E1F;
         flags = 0x2021;
@@ -43,7 +43,7 @@ pub record ResourceWalkRows : Type 0 where
         offset = 0x2A2B2C2D;
         dmaoffset = 0x2E2F3031;
       })
-      7741
+      7741)
   -- after one step it stands on the next descriptor, or at the end of the bytes
   pub stood :
       map (λ n. stands 1 (starting n 0) 0) (19 ∷ 20 ∷ 21 ∷ []) ≡ 60 ∷ 20 ∷ 21 ∷ []

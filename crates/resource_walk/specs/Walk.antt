@@ -1,9 +1,8 @@
 -- A walk through descriptor bytes: document 01, "Descriptors", last sentence. The bytes may be
 -- anyone's. A walk through any of them ends, as each step passes 20 bytes or more.
-use Rattle.std.specs.Prelude.{ℕ, zero, suc, ◌+◌, Bool, cond, not, ◌&&◌, List, [], ◌∷◌, leb, length}
+use Rattle.std.specs.Prelude.{ℕ, zero, suc, ◌+◌, Bool, cond, not, ◌&&◌, List, [], ◌∷◌, leb, length, Option, Some, None, ◌≡◌}
 use Rattle.resource_descriptor.specs.declared.descriptor.Descriptor.{Descriptor}
 use Rattle.resource_walk.specs.declared.step.Step.{Step}
-use Rattle.resource_walk.specs.declared.step.Step.TheVariants.{Found, Ended}
 use Rattle.resource_descriptor.specs.Descriptor.{size, descriptor_at, is_last}
 
 -- a descriptor leads on unless it has the last mark or a next field below 20
@@ -14,22 +13,26 @@ leads_on d = not (is_last d) && leb size d.next
 abbrev pub following : ℕ → ℕ → Descriptor → ℕ
 following n at d = cond (leads_on d) (at + d.next) n
 
+-- a descriptor, and the position after it
+abbrev pub step : Descriptor → ℕ → Step
+step d next = record { descriptor = d; following = next }
+
 -- the step at a position: none where 20 bytes do not remain
-abbrev pub step_at : List ℕ → ℕ → Step
+abbrev pub step_at : List ℕ → ℕ → Option Step
 step_at bytes at =
     cond (leb (at + size) (length bytes))
-    (Found (descriptor_at bytes at) (following (length bytes) at (descriptor_at bytes at)))
-    Ended
+    (Some (step (descriptor_at bytes at) (following (length bytes) at (descriptor_at bytes at))))
+    None
 
 -- where a walk stands after a step
-abbrev pub position : ℕ → Step → ℕ
-position at (Found d next) = next
-position at Ended = at
+abbrev pub position : ℕ → Option Step → ℕ
+position at (Some s) = s.following
+position at None = at
 
 -- what a step hands back, and what more follows from the position after it
-abbrev pub handed : Step → (ℕ → List Descriptor) → List Descriptor
-handed (Found d next) more = d ∷ more next
-handed Ended more = []
+abbrev pub handed : Option Step → (ℕ → List Descriptor) → List Descriptor
+handed (Some s) more = s.descriptor ∷ more s.following
+handed None more = []
 
 -- the descriptors that one step after the other hands back, of so many steps at most
 unfoldable pub walk_for : ℕ → List ℕ → ℕ → List Descriptor

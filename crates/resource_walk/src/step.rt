@@ -7,14 +7,11 @@ ghost use Rattle.resource_walk.specs.Walk.{following, step_at, position};
 use numbers::number::{Width, big_at};
 use resource_descriptor::descriptor::{Descriptor, LAST, NEXT, SIZE};
 
-// What stands at a position: a descriptor with the position of the one after it, or no more.
+// A step: the descriptor at a position, and the position after it.
 #[derive(Clone, Copy)]
-pub enum Step {
-    Found {
-        descriptor: Descriptor,
-        following: usize,
-    },
-    Ended,
+pub struct Step {
+    pub descriptor: Descriptor,
+    pub following: usize,
 }
 
 // The fields that stand at a position.
@@ -39,39 +36,31 @@ fn following(end: usize, at: usize, d: Descriptor) -> usize
     ensures { result ≡ following end at d }
 {
     if !(LAST <= d.flags) & (NEXT <= d.next) {
-        return at + d.next as usize;
+        return at + usize::from(d.next);
     }
     end
 }
 
-// The step at any position of any bytes.
-pub fn descriptor_step(bytes: &[u8], at: usize) -> Step
+// The step at any position of any bytes, where SIZE bytes remain.
+pub fn descriptor_step(bytes: &[u8], at: usize) -> Option<Step>
     ensures { result ≡ step_at bytes.now at }
 {
     let end = bytes.len();
     // Whether SIZE bytes remain is asked by subtracting: at + SIZE may be above what a usize holds.
-    if end < SIZE {
-        return Step::Ended;
-    }
-    if end - SIZE < at {
-        return Step::Ended;
+    let last = end.checked_sub(SIZE)?;
+    if last < at {
+        return None;
     }
     let d = descriptor_at(bytes, at);
-    Step::Found {
+    Some(Step {
         descriptor: d,
         following: following(end, at, d),
-    }
+    })
 }
 
 // Where a walk stands after a step from a position: one that has ended stays.
-pub fn position(at: usize, step: Step) -> usize
+pub fn position(at: usize, step: Option<Step>) -> usize
     ensures { result ≡ position at step }
 {
-    match step {
-        Step::Found {
-            descriptor: _,
-            following,
-        } => following,
-        Step::Ended => at,
-    }
+    step.map_or(at, |made| made.following)
 }

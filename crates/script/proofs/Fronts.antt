@@ -3,10 +3,10 @@ use Prim.Native.Nat.{ℕ, ◌+◌, ◌-◌, ◌≤◌, ◌<◌}
 use native.Mathlib.Omega.{arith}
 use mathlib.Core.Bool.{Bool, true, false, cond}
 use mathlib.Core.List.{List, ◌++◌}
-use mathlib.Core.Path.{◌≡◌, refl, ap, ◌∙◌}
+use mathlib.Core.Path.{◌≡◌, refl}
 use lib.Dec.{ltb}
 use lib.ListN.{length, take, drop, length-append}
-use lib.Seq.{length-take-le, take-length, drop_at, drop-drop}
+use lib.Seq.{length-take-le, drop_at, drop-drop}
 use borrow.Author.Tests.{ltb-false, lt-ltb, le-ltb}
 use Rattle.board.specs.Parts.{Parts}
 use Rattle.numbers.specs.Tables.{table_from}
@@ -14,29 +14,30 @@ use Rattle.call.specs.declared.answer.Answer.{Answer}
 use Rattle.call.specs.declared.call.Call.{Call}
 use Rattle.reference.specs.State.{Outcome, outcome, step}
 use Rattle.call_encoding.specs.declared.decode.Decoded.{Decoded}
-use Rattle.call_encoding.specs.declared.decode.Decoded.TheVariants.{Known, Malformed}
-use Rattle.call_encoding.specs.Format.{call_header_size, decoded, answer_bytes}
-use Rattle.script.specs.Script.{ran, fitting, front, own_bytes, turn_of}
+use Rattle.std.specs.Prelude.{Option, None, Some}
+use Rattle.call_encoding.specs.Format.{call_header_size, known, decoded, answer_bytes}
+use Rattle.call_encoding.proofs.Bytes.{same_known}
+use Rattle.script.specs.Script.{turned, fitting, front, own_bytes, turn_of}
 
 -- no constructor is another
-differ : {c : Call} {own : ℕ} → Malformed ≡ Known c own → ⊥
+differ : {c : Call} {own : ℕ} → None ≡ known c own → ⊥
 differ e = let z : ◌≡◌ {A = ℕ} 0 1 = cc in omega arith
 
 -- the ends of `front`
-pub front_short : (l : List ℕ) → length l < call_header_size → Malformed ≡ front l
+pub front_short : (l : List ℕ) → length l < call_header_size → None ≡ front l
 unfolding front
 front_short l h = rw (lt-ltb (length l) call_header_size h)
 
 module _ (l : List ℕ) (h : call_header_size ≤ length l) where
-  pub front_other : decoded (take call_header_size l) ≡ Malformed → Malformed ≡ front l
+  pub front_other : decoded (take call_header_size l) ≡ None → None ≡ front l
   unfolding front
   front_other e = rw (le-ltb (length l) call_header_size h, e)
 
-  pub front_cut : {c : Call} {own : ℕ} → decoded (take call_header_size l) ≡ Known c own → length l - call_header_size < own → Malformed ≡ front l
+  pub front_cut : {c : Call} {own : ℕ} → decoded (take call_header_size l) ≡ known c own → length l - call_header_size < own → None ≡ front l
   unfolding front
   front_cut {c} {own} e less = rw (le-ltb (length l) call_header_size h, e, lt-ltb (length l - call_header_size) own less)
 
-  pub front_whole : {c : Call} {own : ℕ} → decoded (take call_header_size l) ≡ Known c own → own ≤ length l - call_header_size → Known c own ≡ front l
+  pub front_whole : {c : Call} {own : ℕ} → decoded (take call_header_size l) ≡ known c own → own ≤ length l - call_header_size → known c own ≡ front l
   unfolding front
   front_whole {c} {own} e more = rw (le-ltb (length l) call_header_size h, e, le-ltb (length l - call_header_size) own more)
 
@@ -44,22 +45,24 @@ module _ (l : List ℕ) (h : call_header_size ≤ length l) where
 pub record Whole (l : List ℕ) (c : Call) (own : ℕ) : Type 0 where
   pub enough : call_header_size ≤ length l
   pub fits : own ≤ length l - call_header_size
-  pub says : decoded (take call_header_size l) ≡ Known c own
+  pub says : decoded (take call_header_size l) ≡ known c own
 
-pub whole : (l : List ℕ) (c : Call) (own : ℕ) → front l ≡ Known c own → Whole l c own
+pub whole : (l : List ℕ) (c : Call) (own : ℕ) → front l ≡ known c own → Whole l c own
 unfolding front
 whole l c own = long (ltb (length l) call_header_size) refl
   where
-    fit : (d : Decoded) → fitting (length l - call_header_size) d ≡ Known c own → (own ≤ length l - call_header_size) × (d ≡ Known c own)
-    fit (Known k n) e₀ = by (ltb (length l - call_header_size) n) refl e₀
+    fit : (d : Option Decoded) → fitting (length l - call_header_size) d ≡ known c own → (own ≤ length l - call_header_size) × (d ≡ known c own)
+    fit (Some said) e₀ = by (ltb (length l - call_header_size) said.own) refl e₀
       where
-        by : (b : Bool) → ltb (length l - call_header_size) n ≡ b → cond b Malformed (Known k n) ≡ Known c own
-            → (own ≤ length l - call_header_size) × (Known k n ≡ Known c own)
+        by : (b : Bool) → ltb (length l - call_header_size) said.own ≡ b → cond b None (Some said) ≡ known c own
+            → (own ≤ length l - call_header_size) × (Some said ≡ known c own)
         by true t e = absurd (differ e)
-        by false t e = let same : n ≡ own = cc in (rw same at (ltb-false (length l - call_header_size) n t), e)
-    fit Malformed e = absurd (differ e)
+        by false t e =
+            let same : said.own ≡ own = (same_known {a = said.call} {m = said.own} e).1 in
+            (rw same at (ltb-false (length l - call_header_size) said.own t), e)
+    fit None e = absurd (differ e)
 
-    long : (b : Bool) → ltb (length l) call_header_size ≡ b → cond b Malformed (fitting (length l - call_header_size) (decoded (take call_header_size l))) ≡ Known c own
+    long : (b : Bool) → ltb (length l) call_header_size ≡ b → cond b None (fitting (length l - call_header_size) (decoded (take call_header_size l))) ≡ known c own
         → Whole l c own
     long true t e = absurd (differ e)
     long false t e = let f = fit (decoded (take call_header_size l)) e in record { enough = ltb-false (length l) call_header_size t; fits = f.0; says = f.1 }
@@ -73,25 +76,23 @@ pub header_room : (l rest : List ℕ) → call_header_size ≤ length l → call
 header_room l rest h = rw (length-append, length-take-le call_header_size l h) (omega arith)
 
 -- the ends of `turn`
-pub turn_none : (p : Parts) (l : List ℕ) → front l ≡ Malformed → ran 0 l p ≡ turn_of p l
+pub turn_none : (p : Parts) (l : List ℕ) → front l ≡ None → turned None l p ≡ turn_of p l
 unfolding turn_of
 turn_none p l e = rw e
 
-pub turn_is : (p : Parts) (l : List ℕ) {c : Call} {own : ℕ} → front l ≡ Known c own → (n : Outcome) → n ≡ step p c (own_bytes own l)
-    → ran (call_header_size + own) (answer_bytes n.answer own ++ (n.own ++ drop (call_header_size + own) l)) n.parts ≡ turn_of p l
+pub turn_is : (p : Parts) (l : List ℕ) {c : Call} {own : ℕ} → front l ≡ known c own → (n : Outcome) → n ≡ step p c (own_bytes own l)
+    → turned (Some (call_header_size + own)) (answer_bytes n.answer own ++ (n.own ++ drop (call_header_size + own) l)) n.parts ≡ turn_of p l
 unfolding turn_of
 turn_is p l e n s = rw (e, s)
 
-pub turn_done : (p q : Parts) (l mine : List ℕ) (c : Call) (own : ℕ) (a : Answer) {said all : List ℕ} → front l ≡ Known c own
+pub turn_done : (p q : Parts) (l mine : List ℕ) (c : Call) (own : ℕ) (a : Answer) {said : List ℕ} → front l ≡ known c own
     → outcome a q mine ≡ step p c (take (call_header_size + own - call_header_size) (drop call_header_size l)) → said ≡ answer_bytes a own
-    → all ≡ take (length said) said ++ drop (length said) (take call_header_size l ++ (mine ++ drop (call_header_size + own - call_header_size) (drop call_header_size l)))
-    → ran (call_header_size + own) all q ≡ turn_of p l
-turn_done p q l mine c own a {said} {all} e n s w =
+    → turned (Some (call_header_size + own))
+    (said ++ drop call_header_size (take call_header_size l ++ (mine ++ drop (call_header_size + own - call_header_size) (drop call_header_size l)))) q
+    ≡ turn_of p l
+turn_done p q l mine c own a {said} e n s =
     let k : call_header_size + own - call_header_size ≡ own = omega arith in
-    let t = turn_is p l e (outcome a q mine) (rw k at n) in
-    let size : length said ≡ call_header_size = ap length s ∙ answer_length a own in
     let header : length (take call_header_size l) ≡ call_header_size = length-take-le call_header_size l (whole l c own e).enough in
     let rest : List ℕ = mine ++ drop (call_header_size + own) l in
-    let all-is : all ≡ answer_bytes a own ++ rest =
-    w ∙ rw (take-length said, size, k, drop-drop own call_header_size l, drop_at (take call_header_size l) rest call_header_size header, s) in
-    rw all-is t
+    rw (s, k, drop-drop own call_header_size l, drop_at (take call_header_size l) rest call_header_size header)
+    (turn_is p l e (outcome a q mine) (rw k at n))

@@ -11,23 +11,23 @@ use Rattle.call.specs.declared.call.Call.{Call}
 use Rattle.reference.specs.Run.{request, responses, parts_after, start}
 use Rattle.reference.specs.State.{Outcome, step}
 use Rattle.reference.proofs.Refinement.{refinement}
-use Rattle.call_encoding.specs.declared.decode.Decoded.TheVariants.{Known, Malformed}
-use Rattle.call_encoding.specs.Format.{call_header_size, answer_bytes}
+use Rattle.std.specs.Prelude.{None}
+use Rattle.call_encoding.specs.Format.{call_header_size, known, answer_bytes}
 use Rattle.script.specs.Script.{Ran, ran, front, own_bytes, calls_from, calls_bytes, rendered, run_of}
 use Rattle.script.proofs.Fronts.{whole}
 
 -- the calls at a known front, and at a malformed one
-pub calls_known : (k : ℕ) (l : List ℕ) {c : Call} {own : ℕ} → front l ≡ Known c own
+pub calls_known : (k : ℕ) (l : List ℕ) {c : Call} {own : ℕ} → front l ≡ known c own
     → calls_from (suc k) l ≡ request c (own_bytes own l) ∷ calls_from k (drop (call_header_size + own) l)
 unfolding calls_from
 calls_known k l e = rw e
 
-pub calls_none : (k : ℕ) (l : List ℕ) → front l ≡ Malformed → calls_from k l ≡ []
+pub calls_none : (k : ℕ) (l : List ℕ) → front l ≡ None → calls_from k l ≡ []
 unfolding calls_from
 calls_none zero l e = refl
 calls_none (suc k) l e = rw e
 
-pub own_size : (l : List ℕ) (c : Call) (own : ℕ) → front l ≡ Known c own → length (own_bytes own l) ≡ own
+pub own_size : (l : List ℕ) (c : Call) (own : ℕ) → front l ≡ known c own → length (own_bytes own l) ≡ own
 own_size l c own e =
     let w = whole l c own e in
     length-take-le own (drop call_header_size l) (rw (length-drop call_header_size l) w.fits)
@@ -45,7 +45,7 @@ resumed at done r = ran (at + r.position) (done ++ r.script) r.parts
 pub resumed_twice : (a b : ℕ) (x y : List ℕ) (r : Ran) → resumed a x (resumed b y r) ≡ resumed (a + b) (x ++ y) r
 resumed_twice a b x y r = rw (add_assoc a b r.position, append_assoc x y r.script)
 
-pub from_none : (k : ℕ) (p : Parts) (l : List ℕ) → front l ≡ Malformed → run_from k p l ≡ ran 0 l p
+pub from_none : (k : ℕ) (p : Parts) (l : List ℕ) → front l ≡ None → run_from k p l ≡ ran 0 l p
 unfolding run_from calls_bytes rendered responses parts_after
 from_none k p l e = rw (calls_none k l e)
 
@@ -56,7 +56,7 @@ step_at p c own l = step p c (own_bytes own l)
 abbrev pub done : Outcome → List ℕ
 done n = answer_bytes n.answer (length n.own) ++ n.own
 
-pub from_known : (k : ℕ) (p : Parts) (l : List ℕ) (c : Call) (own : ℕ) → front l ≡ Known c own
+pub from_known : (k : ℕ) (p : Parts) (l : List ℕ) (c : Call) (own : ℕ) → front l ≡ known c own
     → run_from (suc k) p l
     ≡ resumed (call_header_size + own) (done (step_at p c own l)) (run_from k (step_at p c own l).parts (drop (call_header_size + own) l))
 unfolding run_from calls_bytes rendered responses parts_after

@@ -10,9 +10,9 @@ use Rattle.call.specs.declared.call.Call.{Call}
 use Rattle.reference.specs.Reference.{reference_start}
 use Rattle.reference.specs.Run.{Request, reference_responses, reference_after, parts_of}
 use Rattle.call_encoding.specs.declared.decode.Decoded.{Decoded}
-use Rattle.call_encoding.specs.declared.decode.Decoded.TheVariants.{Known, Malformed}
+use Rattle.std.specs.Prelude.{Option, None, Some}
 use Rattle.call_encoding.specs.declared.fields.Fields.{Fields}
-use Rattle.call_encoding.specs.Format.{call_header_size, call_header, encoded}
+use Rattle.call_encoding.specs.Format.{call_header_size, known, call_header, encoded}
 use Rattle.script.specs.Script.{front, own_bytes, calls_from, calls_bytes, rendered, ran, run_of}
 use Rattle.call_encoding.specs.Meaning.{U32, TypesHold}
 use Rattle.script.specs.Meaning.{TypesHoldAll, script_of, ScriptRead, EveryRun}
@@ -37,7 +37,7 @@ module _ (c : Call) (own rest : List ℕ) (h : TypesHold c) (k : U32 (length own
   unfolding written
   written_size = length-append (encoded c (length own)) _ ∙ rw (header_length _ (length own), length-append own rest)
 
-  front_written : front written ≡ Known c (length own)
+  front_written : front written ≡ known c (length own)
   unfolding written
   front_written =
       let size = written_size in
@@ -50,7 +50,7 @@ module _ (c : Call) (own rest : List ℕ) (h : TypesHold c) (k : U32 (length own
   rest_written : drop (call_header_size + length own) written ≡ rest
   rest_written = rw (← drop-drop (length own) call_header_size written, after_header) (drop_at own rest (length own) refl)
 
-front_empty : front [] ≡ Malformed
+front_empty : front [] ≡ None
 front_empty = sym (front_short [] (omega arith))
 
 read_back : (cs : List Request) (k : ℕ) → TypesHoldAll cs → length (script_of cs) ≤ k → calls_from k (script_of cs) ≡ cs
@@ -83,13 +83,13 @@ every_run_lem cs cells h =
 -- a list of bytes is the script of calls and what follows them, where no call stands
 record CoveredBy (l : List ℕ) (cs : List Request) : Type 0 where
   calls : l ≡ script_of cs ++ drop (calls_bytes cs) l
-  stop : front (drop (calls_bytes cs) l) ≡ Malformed
+  stop : front (drop (calls_bytes cs) l) ≡ None
 
-covered_none : (k : ℕ) (l : List ℕ) → front l ≡ Malformed → CoveredBy l (calls_from k l)
+covered_none : (k : ℕ) (l : List ℕ) → front l ≡ None → CoveredBy l (calls_from k l)
 unfolding script_of calls_bytes
 covered_none k l e = rw (calls_none k l e) (record { calls = refl; stop = e })
 
-covered_more : (k : ℕ) (l : List ℕ) (c : Call) (own : ℕ) → front l ≡ Known c own
+covered_more : (k : ℕ) (l : List ℕ) (c : Call) (own : ℕ) → front l ≡ known c own
     → CoveredBy (drop (call_header_size + own) l) (calls_from k (drop (call_header_size + own) l)) → CoveredBy l (calls_from (suc k) l)
 unfolding script_of calls_bytes
 covered_more k l c own e r =
@@ -114,11 +114,12 @@ covered zero [] h = covered_none zero [] front_empty
 covered zero (x ∷ l) h = absurd (omega arith)
 covered (suc k) l h = by (front l) refl (λ m less. covered k m less)
   where
-    by : (d : Decoded) → front l ≡ d → ((m : List ℕ) → length m ≤ k → CoveredBy m (calls_from k m)) → CoveredBy l (calls_from (suc k) l)
-    by (Known c own) e more =
-        let w = whole l c own e in
-        covered_more k l c own e (more (drop (call_header_size + own) l) (rw (length-drop (call_header_size + own) l) (omega (arith, w.enough))))
-    by Malformed e more = covered_none (suc k) l e
+    by : (d : Option Decoded) → front l ≡ d → ((m : List ℕ) → length m ≤ k → CoveredBy m (calls_from k m)) → CoveredBy l (calls_from (suc k) l)
+    by (Some said) e more =
+        let w = whole l said.call said.own e in
+        covered_more k l said.call said.own e
+        (more (drop (call_header_size + said.own) l) (rw (length-drop (call_header_size + said.own) l) (omega (arith, w.enough))))
+    by None e more = covered_none (suc k) l e
 
 pub script_read : ScriptRead
 script_read l = let c = covered (length l) l (omega arith) in record { calls = c.calls; stop = c.stop }

@@ -1,8 +1,7 @@
 -- What scripts mean, without the proofs: docs/SCRIPT.md, "What is proved".
-use Rattle.std.specs.Prelude.{ℕ, List, [], ◌∷◌, ◌++◌, ◌≡◌, length, drop}
+use Rattle.std.specs.Prelude.{ℕ, List, [], ◌∷◌, ◌++◌, ◌≡◌, None, length, drop}
 use Rattle.reference.specs.Reference.{reference_start}
 use Rattle.reference.specs.Run.{Request, reference_responses, reference_after, parts_of}
-use Rattle.call_encoding.specs.declared.decode.Decoded.TheVariants.{Malformed}
 use Rattle.call_encoding.specs.Format.{encoded}
 use Rattle.call_encoding.specs.Meaning.{U32, TypesHold}
 use Rattle.script.specs.Script.{front, calls_in, stop_in, rendered, ran, run_of}
@@ -19,7 +18,7 @@ TypesHoldAll (c ∷ cs) = (TypesHold c.call × U32 (length c.own)) × TypesHoldA
 -- a script is the script of its calls, and where it stops no call stands
 pub record Covered (script : List ℕ) : Type 0 where
   pub calls : script ≡ script_of (calls_in script) ++ drop (stop_in script) script
-  pub stop : front (drop (stop_in script) script) ≡ Malformed
+  pub stop : front (drop (stop_in script) script) ≡ None
 
 abbrev pub ScriptRead : Type 0
 ScriptRead = (script : List ℕ) → Covered script

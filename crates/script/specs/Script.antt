@@ -1,5 +1,5 @@
 -- Scripts: the calls of one, where it stops, and what a run leaves: docs/SCRIPT.md.
-use Rattle.std.specs.Prelude.{ℕ, zero, suc, ◌+◌, ◌-◌, cond, List, [], ◌∷◌, ◌++◌, ltb, length, take, drop}
+use Rattle.std.specs.Prelude.{ℕ, zero, suc, ◌+◌, ◌-◌, cond, List, [], ◌∷◌, ◌++◌, Option, None, Some, ltb, length, take, drop}
 use Rattle.board.specs.Parts.{Parts}
 use Rattle.call.specs.declared.call.Call.{Call}
 use Rattle.reference.specs.Reference.{reference_start}
@@ -13,23 +13,22 @@ use Rattle.reference.specs.Run.{
   parts_of,
 }
 use Rattle.call_encoding.specs.declared.decode.Decoded.{Decoded}
-use Rattle.call_encoding.specs.declared.decode.Decoded.TheVariants.{Known, Malformed}
 use Rattle.call_encoding.specs.Format.{call_header_size, decoded, answer_bytes}
 
 -- a call's own buffer fits into what remains, or the call is malformed
-abbrev pub fitting : ℕ → Decoded → Decoded
-fitting room (Known c own) = cond (ltb room own) Malformed (Known c own)
-fitting room Malformed = Malformed
+abbrev pub fitting : ℕ → Option Decoded → Option Decoded
+fitting room (Some d) = cond (ltb room d.own) None (Some d)
+fitting room None = None
 
 -- the call at the front of a script
-unfoldable pub front : List ℕ → Decoded
+unfoldable pub front : List ℕ → Option Decoded
 front l =
-    cond (ltb (length l) call_header_size) Malformed
+    cond (ltb (length l) call_header_size) None
     (fitting (length l - call_header_size) (decoded (take call_header_size l)))
 
-abbrev pub on_call : {A : Type 0} → Decoded → (Call → ℕ → A) → A → A
-on_call (Known c own) f x = f c own
-on_call Malformed f x = x
+abbrev pub on_call : {A : Type 0} → Option Decoded → (Call → ℕ → A) → A → A
+on_call (Some d) f x = f d.call d.own
+on_call None f x = x
 
 -- the own buffer of the call at the front
 abbrev pub own_bytes : ℕ → List ℕ → List ℕ
@@ -69,15 +68,25 @@ pub record Ran : Type 0 where
 abbrev pub ran : ℕ → List ℕ → Parts → Ran
 ran position script p = record { position = position; script = script; parts = p }
 
--- the call at the front performed in place, with the bytes that it takes; 0 where it is malformed
-unfoldable pub turn_of : Parts → List ℕ → Ran
+-- the bytes that the call at the front takes, none where it is malformed; the script and the lent
+-- parts
+pub record Turned : Type 0 where
+  pub took : Option ℕ
+  pub script : List ℕ
+  pub parts : Parts
+
+abbrev pub turned : Option ℕ → List ℕ → Parts → Turned
+turned took script p = record { took = took; script = script; parts = p }
+
+-- the call at the front performed in place; where it is malformed nothing changes
+unfoldable pub turn_of : Parts → List ℕ → Turned
 turn_of p l =
     on_call (front l)
     (λ c own.
     let n = step p c (own_bytes own l) in
-    ran (call_header_size + own)
+    turned (Some (call_header_size + own))
     (answer_bytes n.answer own ++ (n.own ++ drop (call_header_size + own) l)) n.parts)
-    (ran 0 l p)
+    (turned None l p)
 
 -- THE CONTRACT OF RUN, in the reference machine's words
 unfoldable pub run_of : List ℕ → List ℕ → Ran

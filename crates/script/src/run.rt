@@ -2,80 +2,42 @@
 // an answer is written over its call's header and an own buffer is lent where it stands, so that a
 // script after its run is its answers, and a run needs no room beside it. The contract says the
 // whole run in the reference machine's words, so that demand 3 is a claim about this function.
-ghost use Rattle.std.specs.Prelude.{◌≡◌, List, ℕ};
-ghost use Rattle.board.specs.Parts.{parts};
+ghost use Rattle.std.specs.Prelude.{◌≡◌};
+ghost use Rattle.board.specs.Parts.{parts_lent, SameLoans};
 ghost use Rattle.reference.specs.Run.{start};
 ghost use Rattle.script.specs.Script.{ran, run_of};
 
 use crate::turn::turn;
-use board::layout::{
-    CellOffsets, FUNCTIONS, HOOK, Header, Hooks, MARK, RECORD, REGISTER_BYTES, Records, Registers,
-    Used, WINDOWS, Windows,
-};
+use board::layout::{FUNCTIONS, HEADER, HOOK, MARK, RECORD, REGISTER_BYTES, WINDOWS};
+use board::parts::Board;
 
-// The board before the first load.
-fn clear(
-    header: &mut Header,
-    records: &mut Records,
-    registers: &mut Registers,
-    windows: &mut Windows,
-    offsets: &mut CellOffsets,
-    hooks: &mut Hooks,
-    used: &mut Used,
-)
-    ensures { (cells : List ℕ)
-        → parts header.new records.new registers.new
-        windows.new offsets.new
-        hooks.new used.new cells
-        ≡ start cells }
+// The board before the first load; its cells stay.
+#[tactic(auto, unfolding(reference::specs::Run::start))]
+fn clear(board: &mut Board<'_>)
+    ensures loans { SameLoans board.old board.new }
+    ensures start { parts_lent board.new ≡ start board.old.cells.now }
 {
-    *header = [0u32; 4];
-    *records = [0u8; FUNCTIONS * RECORD];
-    *registers = [0u8; FUNCTIONS * REGISTER_BYTES];
-    *windows = [0u64; WINDOWS];
-    *offsets = [0u32; WINDOWS + 1];
-    *hooks = [0u32; HOOK * FUNCTIONS];
-    *used = [0u32; MARK * FUNCTIONS];
+    *board.header = [0; HEADER];
+    *board.records = [0; FUNCTIONS * RECORD];
+    *board.registers = [0; FUNCTIONS * REGISTER_BYTES];
+    *board.windows = [0; WINDOWS];
+    *board.offsets = [0; WINDOWS + 1];
+    *board.hooks = [0; HOOK * FUNCTIONS];
+    *board.used = [0; MARK * FUNCTIONS];
 }
 
 // Performs the calls of a script one after the other, in place. Gives the position of the first
 // malformed call, or the script's length where there is none; the bytes from that position on stay
 // as they were.
-pub fn run(
-    script: &mut [u8],
-    header: &mut Header,
-    records: &mut Records,
-    registers: &mut Registers,
-    windows: &mut Windows,
-    offsets: &mut CellOffsets,
-    hooks: &mut Hooks,
-    used: &mut Used,
-    cells: &mut [u8],
-) -> usize
-    ensures { ran result script.new
-        (parts header.new records.new registers.new
-        windows.new offsets.new
-        hooks.new used.new cells.new)
-        ≡ run_of script.old cells.old }
+pub fn run(script: &mut [u8], board: &mut Board<'_>) -> usize
+    ensures loans { SameLoans board.old board.new }
+    ensures run { ran result script.new (parts_lent board.new)
+        ≡ run_of script.old board.old.cells.now }
 {
-    clear(header, records, registers, windows, offsets, hooks, used);
+    clear(board);
     let mut at = 0;
     // Invariant: the bytes before `at` are done, and the run of the rest makes the whole run.
-    while at < script.len() {
-        let took = turn(
-            &mut script[at..],
-            header,
-            records,
-            registers,
-            windows,
-            offsets,
-            hooks,
-            used,
-            cells,
-        );
-        if took == 0 {
-            return at;
-        }
+    while let Some(took) = turn(&mut script[at..], board) {
         at += took;
     }
     at

@@ -6,15 +6,16 @@ use native.Mathlib.Numerals.{add-one}
 use native.Mathlib.Omega.{arith}
 use mathlib.Core.Bool.{Bool, true, false, cond}
 use mathlib.Core.List.{List, [], ◌∷◌}
+use Rattle.std.specs.Prelude.{Option, Some, None, Ok, Err}
+use Rattle.std.specs.List.{filter, range_with_len, slice_get}
+use Rattle.std.specs.Option.{ok_or, option_map}
 use mathlib.Core.Logic.{◌⊎◌, inl, inr, ⊎_elim}
-use mathlib.Core.Path.{◌≡◌, refl, ◌∙◌, ap}
+use mathlib.Core.Path.{◌≡◌, refl, sym, ◌∙◌, ap}
 use Rattle.board.specs.Layout.{registers_each}
 use Rattle.numbers.specs.Numbers.{little}
-use Rattle.board.specs.Statuses.{device_not_found}
+use Rattle.board.specs.declared.status.CallRefusal.TheVariants.{DeviceNotFound}
 use Rattle.numbers.proofs.Numbers.{little_same}
-use Rattle.search.specs.declared.search.Search.{Search}
-use Rattle.search.specs.declared.search.Search.TheVariants.{Found, Refused}
-use Rattle.search.specs.Search.{device_matches, class_matches, matching, searched, found_number, search_number, Sought, handles, refused_with, sought_at, sought_number, Finds}
+use Rattle.search.specs.Search.{Search, device_matches, class_matches, matching, searched, found_number, search_number, Sought, handles, refused_with, sought_at, sought_number, Finds}
 use Rattle.search.specs.Meaning.{matches_before, Indexed, IndexRule}
 
 -- the number of the answer at an index is the number that document 01 gives it
@@ -27,10 +28,36 @@ search_number_lem (h ∷ hs) (suc n) = search_number_lem hs n
 pub sought_number_lem : (s : Sought) (n : ℕ) → found_number (sought_at s n) ≡ sought_number s n
 unfolding sought_at sought_number
 sought_number_lem (handles hs) n = search_number_lem hs n
-sought_number_lem (refused_with status) n = refl
+sought_number_lem (refused_with refusal) n = refl
 
 pub finds : (s : Sought) (n : ℕ) (r : Search) → r ≡ sought_at s n → Finds s n r
 finds s n r e = record { answer = e; number = ap found_number e ∙ sought_number_lem s n }
+
+-- index k in std's words, the item of that index among the places that match, and its handle
+searched_nth : (m : ℕ → Bool) (i n k : ℕ)
+    → searched (matching m i n) k ≡ ok_or (option_map (λ j. j + 1) (slice_get (filter m (range_with_len i n)) k)) DeviceNotFound
+unfolding matching searched
+searched_nth m i zero k = refl
+searched_nth m i (suc n) k = by (m i) k (searched_nth m (i + 1) n)
+  where
+    by : (b : Bool) (k : ℕ)
+        → ((k : ℕ) → searched (matching m (i + 1) n) k ≡ ok_or (option_map (λ j. j + 1) (slice_get (filter m (range_with_len (i + 1) n)) k)) DeviceNotFound)
+        → searched (cond b ((i + 1) ∷ matching m (i + 1) n) (matching m (i + 1) n)) k
+        ≡ ok_or (option_map (λ j. j + 1) (slice_get (cond b (i ∷ filter m (range_with_len (i + 1) n)) (filter m (range_with_len (i + 1) n))) k)) DeviceNotFound
+    by true zero ih = refl
+    by true (suc k) ih = ih k
+    by false k ih = ih k
+
+map_same : (r : Option ℕ) → option_map (λ x. x) r ≡ r
+map_same None = refl
+map_same (Some x) = refl
+
+-- so a chain that ends in `nth` answers as the search
+pub searched_by : (m : ℕ → Bool) (n k : ℕ) (place handle : Option ℕ) (r : Search)
+    → option_map (λ x. x) place ≡ slice_get (filter m (range_with_len 0 n)) k
+    → handle ≡ option_map (λ i. i + 1) place → r ≡ ok_or handle DeviceNotFound → r ≡ searched (matching m 0 n) k
+searched_by m n k place handle r e f g =
+    g ∙ ap (λ (o : Option ℕ). ok_or o DeviceNotFound) (f ∙ ap (option_map (λ i. i + 1)) (sym (map_same place) ∙ e)) ∙ sym (searched_nth m 0 n k)
 
 -- a search depends on the functions that it looks at
 pub matching_same : (m m' : ℕ → Bool) (i n : ℕ) → ((j : ℕ) → j < i + n → m j ≡ m' j) → matching m i n ≡ matching m' i n
@@ -51,7 +78,7 @@ class_same class f g e = rw (e 0x0B (omega arith), e 0x0A (omega arith), e 0x09 
 module _ (m : ℕ → Bool) where
   -- a turn at place i, where one function and the rest are left: found, a match that is counted, no match
   module _ (i left rest : ℕ) (more : left ≡ suc rest) where
-    pub turn_found : (n : ℕ) → m i ≡ true → n ≡ 0 → searched (matching m i left) n ≡ Found (i + 1)
+    pub turn_found : (n : ℕ) → m i ≡ true → n ≡ 0 → searched (matching m i left) n ≡ Ok (i + 1)
     unfolding matching searched
     turn_found n e z = rw (more, e, z)
 
@@ -95,8 +122,8 @@ module _ (m : ℕ → Bool) where
   -- index k is answered by such a place, or refused where the matches are too few
   abbrev Ends : ℕ → ℕ → ℕ → Type 0
   Ends i n k =
-      ((j : ℕ) × (searched (matching m i n) k ≡ Found (j + 1)) × Place i n k j)
-      ⊎ ((searched (matching m i n) k ≡ Refused device_not_found) × (matches_before m (i + n) ≤ matches_before m i + k))
+      ((j : ℕ) × (searched (matching m i n) k ≡ Ok (j + 1)) × Place i n k j)
+      ⊎ ((searched (matching m i n) k ≡ Err DeviceNotFound) × (matches_before m (i + n) ≤ matches_before m i + k))
 
   -- a turn that goes on
   goes_on : (i n k l : ℕ) → searched (matching m i (suc n)) k ≡ searched (matching m (i + 1) n) l
@@ -122,7 +149,7 @@ module _ (m : ℕ → Bool) where
       by false e k ih = goes_on i n k k (turn_passed i (suc n) n refl k e) (omega (arith, before_next i false e)) (ih k)
 
   -- of all places from 0 on: an index that is answered, and one that is refused
-  found_one : (count n j : ℕ) → searched (matching m 0 count) n ≡ Found (j + 1) → Place 0 count n j → Indexed m count n
+  found_one : (count n j : ℕ) → searched (matching m 0 count) n ≡ Ok (j + 1) → Place 0 count n j → Indexed m count n
   unfolding matches_before
   found_one count n j e p =
       record {
@@ -136,7 +163,7 @@ module _ (m : ℕ → Bool) where
         );
       }
 
-  found_none : (count n : ℕ) → searched (matching m 0 count) n ≡ Refused device_not_found → matches_before m count ≤ n → Indexed m count n
+  found_none : (count n : ℕ) → searched (matching m 0 count) n ≡ Err DeviceNotFound → matches_before m count ≤ n → Indexed m count n
   found_none count n e h =
       record {
         found = λ i. (

@@ -1,5 +1,4 @@
 -- Searching, what it means, and rows.
 pub mod Search
-pub mod Steps
 pub mod Meaning
 pub mod Rows

@@ -1,8 +1,7 @@
 -- What searches mean (document 01, "Searching"): a statement alone, proved in
 -- proofs/Searches.antt.
-use Rattle.std.specs.Prelude.{ℕ, zero, suc, ◌+◌, ◌<◌, ◌≤◌, Bool, true, cond, ◌↔◌, ◌≡◌}
-use Rattle.board.specs.Statuses.{device_not_found}
-use Rattle.search.specs.declared.search.Search.TheVariants.{Found, Refused}
+use Rattle.std.specs.Prelude.{ℕ, zero, suc, ◌+◌, ◌<◌, ◌≤◌, Bool, true, cond, ◌↔◌, ◌≡◌, Ok, Err}
+use Rattle.board.specs.declared.status.CallRefusal.TheVariants.{DeviceNotFound}
 use Rattle.search.specs.Search.{matching, searched}
 
 -- how many of the first n places match
@@ -14,9 +13,9 @@ matches_before m (suc n) = matches_before m n + cond (m n) 1 0
 -- n or fewer matches
 pub record Indexed (m : ℕ → Bool) (count n : ℕ) : Type 0 where
   pub found : (i : ℕ)
-      → (searched (matching m 0 count) n ≡ Found (i + 1))
+      → (searched (matching m 0 count) n ≡ Ok (i + 1))
       ↔ ((i < count) × ((m i ≡ true) × (matches_before m i ≡ n)))
-  pub missing : (searched (matching m 0 count) n ≡ Refused device_not_found)
+  pub missing : (searched (matching m 0 count) n ≡ Err DeviceNotFound)
       ↔ (matches_before m count ≤ n)
 
 abbrev pub IndexRule : Type 0

@@ -1,10 +1,11 @@
 -- Rows with literal numbers of document 01, "Searching": which functions match, and what an index
 -- gives; and of request E1: what is searched for in each call edition.
-use Rattle.std.specs.Prelude.{ℕ, Bool, true, false, List, [], ◌∷◌, map, ◌≡◌, pos, neg_ℤ, get_or}
+use Rattle.std.specs.Prelude.{ℕ, Bool, true, false, List, [], ◌∷◌, map, ◌≡◌, ℤ, pos, neg_ℤ, get_or, Result, Ok, Err}
 use Rattle.numbers.specs.Numbers.{byte_at}
-use Rattle.board.specs.Statuses.{minus}
+use Rattle.board.specs.Statuses.{refusal_number}
+use Rattle.board.specs.declared.status.CallRefusal.{CallRefusal}
+use Rattle.board.specs.declared.status.CallRefusal.TheVariants.{BadVendorId}
 use Rattle.call_edition.specs.Edition.{in_edition}
-use Rattle.search.specs.declared.search.Search.TheVariants.{Found, Refused}
 use Rattle.search.specs.Search.{
   device_matches,
   class_matches,
@@ -39,12 +40,21 @@ has_device id = device_matches id (byte_at card)
 abbrev has_class : ℕ → Bool
 has_class class = class_matches class (byte_at card)
 
--- what is sought among them
-abbrev sought : ℕ → ℕ → Sought
-sought edition id = sought_devices (in_edition id edition) 3 cards
+-- an answer, and what is sought, with the number of a refusal in place of its name
+abbrev numbered : Result ℕ CallRefusal → Result ℕ ℤ
+numbered (Ok handle) = Ok handle
+numbered (Err refusal) = Err (refusal_number refusal)
 
-abbrev sought_class : ℕ → ℕ → Sought
-sought_class edition class = sought_classes (in_edition class edition) 3 cards
+abbrev in_numbers : Sought → Result (List ℕ) ℤ
+in_numbers (handles hs) = Ok hs
+in_numbers (refused_with refusal) = Err (refusal_number refusal)
+
+-- what is sought among them
+abbrev sought : ℕ → ℕ → Result (List ℕ) ℤ
+sought edition id = in_numbers (sought_devices (in_edition id edition) 3 cards)
+
+abbrev sought_class : ℕ → ℕ → Result (List ℕ) ℤ
+sought_class edition class = in_numbers (sought_classes (in_edition class edition) 3 cards)
 
 pub record SearchRows : Type 0 where
   -- device ID in bits 31..16, vendor in 15..0
@@ -81,31 +91,32 @@ pub record SearchRows : Type 0 where
   pub by_class : map (λ class. classes class 3 cards) (0x00112333 ∷ 0x00112233 ∷ 0x02110033 ∷ [])
       ≡ (2 ∷ []) ∷ (1 ∷ 3 ∷ []) ∷ (1 ∷ 2 ∷ 3 ∷ []) ∷ []
   -- index n gives the match with exactly n matches before it, -4 if there are n or fewer
-  pub index : map (searched (devices 0x56781234 3 cards)) (0 ∷ 1 ∷ 2 ∷ 3 ∷ 0xFFFFFFFF ∷ [])
-      ≡ Found 1 ∷ Found 3 ∷ Refused (minus 4) ∷ Refused (minus 4) ∷ Refused (minus 4) ∷ []
+  pub index : map (λ n. numbered (searched (devices 0x56781234 3 cards) n))
+      (0 ∷ 1 ∷ 2 ∷ 3 ∷ 0xFFFFFFFF ∷ [])
+      ≡ Ok 1 ∷ Ok 3 ∷ Err (neg_ℤ (pos 4)) ∷ Err (neg_ℤ (pos 4)) ∷ Err (neg_ℤ (pos 4)) ∷ []
   pub number : map (search_number (devices 0x56781234 3 cards))
       (0 ∷ 1 ∷ 2 ∷ 3 ∷ 0xFFFFFFFF ∷ [])
       ≡ pos 1 ∷ pos 3 ∷ neg_ℤ (pos 4) ∷ neg_ℤ (pos 4) ∷ neg_ℤ (pos 4) ∷ []
-  pub no_match : searched (devices 0x00010002 3 cards) 0 ≡ Refused (minus 4)
+  pub no_match : numbered (searched (devices 0x00010002 3 cards) 0) ≡ Err (neg_ℤ (pos 4))
   -- in draft 1.9 the vendor stands in bits 31..16, and FFFFh is refused there and only there
   pub draft_devices : map (sought 1) (0x12345678 ∷ 0x56781234 ∷ 0x12355679 ∷ [])
-      ≡ handles (1 ∷ 3 ∷ []) ∷ handles [] ∷ handles (2 ∷ []) ∷ []
+      ≡ Ok (1 ∷ 3 ∷ []) ∷ Ok [] ∷ Ok (2 ∷ []) ∷ []
   pub draft_vendors : map (sought 1) (0xFFFF5678 ∷ 0xFFFFFFFF ∷ 0xFFFE5678 ∷ 0x1234FFFF ∷ [])
-      ≡ refused_with (minus 3) ∷ refused_with (minus 3) ∷ handles [] ∷ handles [] ∷ []
+      ≡ Err (neg_ℤ (pos 3)) ∷ Err (neg_ℤ (pos 3)) ∷ Ok [] ∷ Ok [] ∷ []
   -- an unknown edition before vendor FFFFh, which in the later text stands in bits 15..0
   pub device_editions : map (λ e. sought e 0xFFFF1234) (0 ∷ 1 ∷ 2 ∷ 3 ∷ 0x101 ∷ [])
-      ≡ refused_with (minus 2) ∷ refused_with (minus 3) ∷ handles [] ∷ refused_with (minus 2)
-      ∷ refused_with (minus 2) ∷ []
+      ≡ Err (neg_ℤ (pos 2)) ∷ Err (neg_ℤ (pos 3)) ∷ Ok [] ∷ Err (neg_ℤ (pos 2))
+      ∷ Err (neg_ℤ (pos 2)) ∷ []
   -- class bits 31..24 play no part in draft 1.9: all three bytes are compared
   pub draft_classes : map (sought_class 1) (0x00112233 ∷ 0xFF112233 ∷ 0x04FF2233 ∷ [])
-      ≡ handles (1 ∷ 3 ∷ []) ∷ handles (1 ∷ 3 ∷ []) ∷ handles [] ∷ []
+      ≡ Ok (1 ∷ 3 ∷ []) ∷ Ok (1 ∷ 3 ∷ []) ∷ Ok [] ∷ []
   pub class_editions : map (λ e. sought_class e 0x04FF2233) (0 ∷ 1 ∷ 2 ∷ 3 ∷ 0x102 ∷ [])
-      ≡ refused_with (minus 2) ∷ handles [] ∷ handles (1 ∷ 3 ∷ []) ∷ refused_with (minus 2)
-      ∷ refused_with (minus 2) ∷ []
+      ≡ Err (neg_ℤ (pos 2)) ∷ Ok [] ∷ Ok (1 ∷ 3 ∷ []) ∷ Err (neg_ℤ (pos 2))
+      ∷ Err (neg_ℤ (pos 2)) ∷ []
   -- a refusal at every index
-  pub sought_refused : map (sought_at (refused_with (minus 3))) (0 ∷ 7 ∷ [])
-      ≡ Refused (minus 3) ∷ Refused (minus 3) ∷ []
-  pub refused_number : map (sought_number (refused_with (minus 3))) (0 ∷ 7 ∷ [])
+  pub sought_refused : map (λ n. numbered (sought_at (refused_with BadVendorId) n)) (0 ∷ 7 ∷ [])
+      ≡ Err (neg_ℤ (pos 3)) ∷ Err (neg_ℤ (pos 3)) ∷ []
+  pub refused_number : map (sought_number (refused_with BadVendorId)) (0 ∷ 7 ∷ [])
       ≡ neg_ℤ (pos 3) ∷ neg_ℤ (pos 3) ∷ []
-  pub sought_found : map (sought_at (handles (1 ∷ 3 ∷ []))) (0 ∷ 1 ∷ 2 ∷ [])
-      ≡ Found 1 ∷ Found 3 ∷ Refused (minus 4) ∷ []
+  pub sought_found : map (λ n. numbered (sought_at (handles (1 ∷ 3 ∷ [])) n)) (0 ∷ 1 ∷ 2 ∷ [])
+      ≡ Ok 1 ∷ Ok 3 ∷ Err (neg_ℤ (pos 4)) ∷ []

@@ -1,12 +1,15 @@
 -- Searching: document 01, "Searching"; in two call editions: request E1.
-use Rattle.std.specs.Prelude.{ℕ, zero, suc, ◌+◌, ◌/◌, ◌%◌, ◌^◌, Bool, cond, ◌&&◌, ◌||◌, List, [], ◌∷◌, ◌≡◌, eqb, ℤ, pos}
+use Rattle.std.specs.Prelude.{ℕ, zero, suc, ◌+◌, ◌/◌, ◌%◌, ◌^◌, Bool, cond, ◌&&◌, ◌||◌, List, [], ◌∷◌, ◌≡◌, eqb, ℤ, pos, Result, Ok, Err}
 use Rattle.numbers.specs.Numbers.{little, bit}
-use Rattle.board.specs.Statuses.{func_not_supported, bad_vendor_id, device_not_found}
-use Rattle.board.specs.declared.status.Status.{Status}
+use Rattle.board.specs.Statuses.{refusal_number}
+use Rattle.board.specs.declared.status.CallRefusal.{CallRefusal}
+use Rattle.board.specs.declared.status.CallRefusal.TheVariants.{
+  FuncNotSupported,
+  BadVendorId,
+  DeviceNotFound,
+}
 use Rattle.call_edition.specs.Edition.{is_known, is_bad_vendor, id_of, class_of}
 use Rattle.call_edition.specs.declared.edition.InEdition.{InEdition}
-use Rattle.search.specs.declared.search.Search.{Search}
-use Rattle.search.specs.declared.search.Search.TheVariants.{Found, Refused}
 
 -- a function's registers r against a device ID in bits 31..16 and a vendor in 15..0; vendor FFFFh
 -- matches all
@@ -37,20 +40,24 @@ devices id count r = matching (λ i. device_matches id (r i)) 0 count
 abbrev pub classes : ℕ → ℕ → (ℕ → ℕ → ℕ) → List ℕ
 classes class count r = matching (λ i. class_matches class (r i)) 0 count
 
+-- the handle found, or a refusal
+abbrev pub Search : Type 0
+Search = Result ℕ CallRefusal
+
 -- index n gives the match with n matches before it
 unfoldable pub searched : List ℕ → ℕ → Search
-searched [] n = Refused device_not_found
-searched (h ∷ hs) zero = Found h
+searched [] n = Err DeviceNotFound
+searched (h ∷ hs) zero = Ok h
 searched (h ∷ hs) (suc n) = searched hs n
 
 -- the number of an answer
 abbrev pub found_number : Search → ℤ
-found_number (Found handle) = pos handle
-found_number (Refused status) = status.0
+found_number (Ok handle) = pos handle
+found_number (Err refusal) = refusal_number refusal
 
 -- document 01's number for index n: the handle, or -4
 unfoldable pub search_number : List ℕ → ℕ → ℤ
-search_number [] n = device_not_found.0
+search_number [] n = refusal_number DeviceNotFound
 search_number (h ∷ hs) zero = pos h
 search_number (h ∷ hs) (suc n) = search_number hs n
 
@@ -58,28 +65,28 @@ search_number (h ∷ hs) (suc n) = search_number hs n
 -- looked at
 pub data Sought : Type 0 where
   handles : List ℕ → Sought
-  refused_with : Status → Sought
+  refused_with : CallRefusal → Sought
 
 -- in the edition that the caller names: an unknown one before all else, then vendor FFFFh of
 -- draft 1.9
 abbrev pub sought_devices : InEdition → ℕ → (ℕ → ℕ → ℕ) → Sought
 sought_devices id count r =
     cond (is_known id)
-    (cond (is_bad_vendor id) (refused_with bad_vendor_id) (handles (devices (id_of id) count r)))
-    (refused_with func_not_supported)
+    (cond (is_bad_vendor id) (refused_with BadVendorId) (handles (devices (id_of id) count r)))
+    (refused_with FuncNotSupported)
 
 abbrev pub sought_classes : InEdition → ℕ → (ℕ → ℕ → ℕ) → Sought
 sought_classes class count r =
-    cond (is_known class) (handles (classes (class_of class) count r)) (refused_with func_not_supported)
+    cond (is_known class) (handles (classes (class_of class) count r)) (refused_with FuncNotSupported)
 
 -- the answer of index n, and its number
 unfoldable pub sought_at : Sought → ℕ → Search
 sought_at (handles hs) n = searched hs n
-sought_at (refused_with status) n = Refused status
+sought_at (refused_with refusal) n = Err refusal
 
 unfoldable pub sought_number : Sought → ℕ → ℤ
 sought_number (handles hs) n = search_number hs n
-sought_number (refused_with status) n = status.0
+sought_number (refused_with refusal) n = refusal_number refusal
 
 -- an answer is that of index n, and has its number
 pub record Finds (s : Sought) (n : ℕ) (r : Search) : Type 0 where

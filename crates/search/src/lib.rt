@@ -3,4 +3,4 @@
 
 mod search;
 
-pub use search::{Search, find_pci_classcode, find_pci_device};
+pub use search::{find_pci_classcode, find_pci_device};

@@ -1,43 +1,24 @@
 // The two searches, by device and by class: one walk over the functions, which passes over as many
 // matches as the index says. What the caller names in an edition is turned into the later text's ID
 // or class first.
-ghost use Rattle.std.specs.Prelude.{◌≡◌};
+ghost use Rattle.std.specs.Prelude.{◌≡◌, ℕ, Bool};
 ghost use Rattle.board.specs.Handles.{function_count};
 ghost use Rattle.board.specs.Layout.{register_byte};
 ghost use Rattle.search.specs.Search.{
   device_matches,
   class_matches,
   matching,
-  handles,
+  searched,
   sought_devices,
   sought_classes,
   Finds,
 };
-ghost use Rattle.search.specs.Steps.{matches};
 
 use board::handle::function_count;
 use board::layout::{Header, Registers, register_byte, register_number};
-use board::status::Status;
+use board::status::CallRefusal;
 use call_edition::edition::{InEdition, class_of, id_of, is_bad_vendor, is_known};
 use numbers::number::Width;
-
-// The answer of a search.
-#[derive(Clone, Copy)]
-pub enum Search {
-    // The handle found, which is the number handed back.
-    Found(u32),
-    // -2, FUNC_NOT_SUPPORTED, -3, BAD_VENDOR_ID, or -4, DEVICE_NOT_FOUND.
-    Refused(Status),
-}
-
-// What a search looks for.
-#[derive(Clone, Copy)]
-pub(crate) enum Wanted {
-    // Device ID in bits 31 to 16, vendor in bits 15 to 0.
-    Device(u32),
-    // Class in bits 23 to 0, the bytes to ignore in bits 26 to 24.
-    Class(u32),
-}
 
 // Registers that searches look at.
 const VENDOR: u8 = 0x00;
@@ -81,73 +62,68 @@ fn class_matches(registers: &Registers, function: u32, class: u32) -> bool
         & ((class / IGNORE_INTERFACE % 2 == 1) | (interface == class % 256))
 }
 
-// Whether a function is one that a search looks for.
-fn matches(registers: &Registers, function: u32, wanted: Wanted) -> bool
-    ensures { result ≡ matches wanted (register_byte registers.now function) }
+// The handle of the function that passes a test with so many before it that do.
+fn find<F: Fn(u32) -> bool>(count: u32, is_match: F, index: u32) -> Result<u32, CallRefusal>
+    requires { F.IsAlwaysCallable is_match }
+    ensures { (m : ℕ → Bool) → ((i : ℕ) (b : Bool) → F.post is_match i b → b ≡ m i)
+        → result ≡ searched (matching m 0 count) index }
 {
-    match wanted {
-        Wanted::Device(id) => device_matches(registers, function, id),
-        Wanted::Class(class) => class_matches(registers, function, class),
-    }
-}
-
-// The function that matches with so many matches before it.
-fn find(header: &Header, registers: &Registers, wanted: Wanted, index: u32) -> Search
-    ensures { Finds
-        (handles (matching (λ i. matches wanted (register_byte registers.now i))
-        0 (function_count header.now)))
-        index result }
-{
-    let count = function_count(header);
-    let mut before = index;
-    let mut i = 0;
-    // Invariant: the search from place i on, past `before` matches, answers as the whole search.
-    while i < count {
-        if matches(registers, i, wanted) {
-            if before == 0 {
-                return Search::Found(i + 1);
-            }
-            before -= 1;
-            i += 1;
-        } else {
-            i += 1;
-        }
-    }
-    Search::Refused(Status::DEVICE_NOT_FOUND)
+    (0..count)
+        .filter(|i| is_match(*i))
+        .nth(index as usize)
+        .map(|i| i + 1)
+        .ok_or(CallRefusal::DeviceNotFound)
 }
 
 // The match with so many matches before it in table order: device ID in bits 31 to 16, vendor in
 // bits 15 to 0; in draft 1.9 the other way round, and there vendor FFFFh is refused.
-pub fn find_pci_device(header: &Header, registers: &Registers, id: InEdition, index: u32) -> Search
+#[tactic(auto, unfolding(crate::specs::Search::sought_at, crate::specs::Search::sought_number))]
+pub fn find_pci_device(
+    header: &Header,
+    registers: &Registers,
+    id: InEdition,
+    index: u32,
+) -> Result<u32, CallRefusal>
     ensures { Finds
         (sought_devices id
         (function_count header.now) (register_byte registers.now))
         index result }
 {
     if !is_known(id) {
-        return Search::Refused(Status::FUNC_NOT_SUPPORTED);
+        return Err(CallRefusal::FuncNotSupported);
     }
     if is_bad_vendor(id) {
-        return Search::Refused(Status::BAD_VENDOR_ID);
+        return Err(CallRefusal::BadVendorId);
     }
-    find(header, registers, Wanted::Device(id_of(id)), index)
+    let later = id_of(id);
+    find(
+        function_count(header),
+        |i| device_matches(registers, i, later),
+        index,
+    )
 }
 
 // The same by class: base, sub and programming interface in bits 23 to 0; bits 26, 25 and 24 set
 // mean ignore one each, in that order; in draft 1.9 they play no part.
+#[tactic(auto, unfolding(crate::specs::Search::sought_at, crate::specs::Search::sought_number))]
 pub fn find_pci_classcode(
     header: &Header,
     registers: &Registers,
     class: InEdition,
     index: u32,
-) -> Search
+) -> Result<u32, CallRefusal>
     ensures { Finds
         (sought_classes class
         (function_count header.now) (register_byte registers.now))
         index result }
 {
     if !is_known(class) {
-        return Search::Refused(Status::FUNC_NOT_SUPPORTED);
+        return Err(CallRefusal::FuncNotSupported);
     }
-    find(header, registers, Wanted::Class(class_of(class)), index)
+    let later = class_of(class);
+    find(
+        function_count(header),
+        |i| class_matches(registers, i, later),
+        index,
+    )
 }

@@ -1,7 +1,6 @@
 -- The calls that always give -2, whatever the handle is: document 01, "Numbers handed back".
 use Rattle.std.specs.Prelude.{ℕ}
-use Rattle.board.specs.Statuses.{func_not_supported}
-use Rattle.board.specs.declared.status.Status.{Status}
+use Rattle.board.specs.Statuses.{Status, func_not_supported}
 
 abbrev pub special_cycle : ℕ → ℕ → Status
 special_cycle bus message = func_not_supported

@@ -1,5 +1,5 @@
 -- A kept number: one window of document 01, "Windows", in one number.
-use Rattle.std.specs.Prelude.{ℕ, ◌+◌, ◌*◌, ◌/◌, ◌%◌, ◌^◌, Bool, cond, List, [], ◌∷◌, eqb}
+use Rattle.std.specs.Prelude.{ℕ, ◌+◌, ◌*◌, ◌/◌, ◌%◌, ◌^◌, Bool, cond, Option, Some, None, List, [], ◌∷◌, eqb}
 use Rattle.window.specs.Window.{Window}
 
 -- from the top: space, start (32 bits), handle (5), base register (3), length (17), contested (1),
@@ -25,10 +25,10 @@ unpack n =
       contested = eqb (n % 2) 1;
     }
 
--- the number of a base register's window, 0 for none
-abbrev pub code : List Window → ℕ
-code [] = 0
-code (w ∷ l) = pack w
+-- the number of a base register's window, if it has one
+abbrev pub code : List Window → Option ℕ
+code [] = None
+code (w ∷ l) = Some (pack w)
 
 -- where a window begins and ends, with the I/O addresses after the memory addresses
 abbrev pub begins : ℕ → ℕ

@@ -1,6 +1,6 @@
 -- Rows with literal numbers of document 01, section "Windows": when a window is open, its start,
 -- length and end, and its kept number; and of "What the promises say" that k outside 2..16 is none.
-use Rattle.std.specs.Prelude.{ℕ, Bool, true, false, [], ◌∷◌, map, ◌≡◌}
+use Rattle.std.specs.Prelude.{ℕ, Bool, true, false, [], ◌∷◌, map, ◌≡◌, Some, None}
 use Rattle.window.specs.Window.{
   Window,
   end,
@@ -81,9 +81,9 @@ pub record WindowRows : Type 0 where
   pub unpacked_memory : unpack 0x0200000000200800 ≡ mem 0x80000000 0x400 1 0 clear
   pub packed_io : pack (io 0xFFFF0000 0x10000 16 5 contested) ≡ 0x07FFFC0002160001
   pub unpacked_io : unpack 0x07FFFC0002160001 ≡ io 0xFFFF0000 0x10000 16 5 contested
-  -- no window is 0
+  -- the number of a window, if there is one
   pub codes : map code ([] ∷ (mem 0x80000000 0x400 1 0 clear ∷ []) ∷ [])
-      ≡ 0 ∷ 0x0200000000200800 ∷ []
+      ≡ None ∷ Some 0x0200000000200800 ∷ []
   -- where they begin and end, I/O addresses after memory addresses; an end of 2^32 is not 0
   pub kept_begins : map begins (0x0200000000200800 ∷ 0x03FFFFF000200800 ∷ 0x07FFFC0002160001 ∷ [])
       ≡ 0x80000000 ∷ 0xFFFFFC00 ∷ 0x1FFFF0000 ∷ []

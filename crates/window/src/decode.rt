@@ -11,13 +11,12 @@ ghost use Rattle.window.specs.Window.{
 ghost use Rattle.window.specs.Kept.{code};
 
 use crate::kept::packed;
-use numbers::number::power;
 
 // Whether the command byte opens the windows of a space: bit 0 for I/O, bit 1 for memory.
-fn command_bit(space: u64, command: u8) -> bool
-    ensures { result ≡ command_bit space command }
+fn command_bit(io: bool, command: u8) -> bool
+    ensures { result ≡ command_bit (cond io 1 0) command }
 {
-    if space == 1 {
+    if io {
         command % 2 == 1
     } else {
         command / 2 % 2 == 1
@@ -25,18 +24,18 @@ fn command_bit(space: u64, command: u8) -> bool
 }
 
 // A base register's value with its bits below k cleared.
-fn start(k: u32, x: u64) -> u64
+fn start(k: u8, x: u32) -> u32
     requires { k < 32 }
-    ensures { (result ≡ start_of k x) × (result ≤ x) }
+    ensures { result ≡ start_of k x }
 {
-    x - x % power(k)
+    x - x % (1u32 << k)
 }
 
 // Whether a length exponent is a window's; an altered record may hold any byte.
 pub fn is_window(k: u8) -> bool
     ensures { result ≡ is_window k }
 {
-    (2 <= k) & (k <= 16)
+    (2..=16).contains(&k)
 }
 
 // The length of the window of length exponent k; 0 where it is none.
@@ -46,24 +45,23 @@ pub fn window_length(k: u8) -> u32
     if !is_window(k) {
         return 0;
     }
-    power(k as u32) as u32
+    1u32 << k
 }
 
-// The kept number of the window of a base register with value x, 0 where it is not open.
-pub fn window_number(k: u8, x: u32, command: u8, handle: u32, base: u8) -> u64
+// The kept number of the window of a base register with value x, if it is open.
+pub fn window_number(k: u8, x: u32, command: u8, handle: u32, base: u8) -> Option<u64>
     ensures { result ≡ code (cond (is_open k x command) (window_of k x handle base ∷ []) []) }
 {
     if !is_window(k) {
-        return 0;
+        return None;
     }
-    let x = x as u64;
-    let space = x % 2;
-    if !command_bit(space, command) {
-        return 0;
+    let io = x % 2 == 1;
+    if !command_bit(io, command) {
+        return None;
     }
-    let start = start(k as u32, x);
+    let start = start(k, x);
     if start == 0 {
-        return 0;
+        return None;
     }
-    packed(space, start, window_length(k) as u64, handle, base)
+    Some(packed(io, start, window_length(k), handle, base))
 }

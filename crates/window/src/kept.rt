@@ -2,7 +2,7 @@
 //   space (1), start (32), handle (5), base register (3), length (17), contested (1)
 // so that the order of the numbers is the order of the window list. The length stands there, and
 // not its exponent: an end then needs no power.
-ghost use Rattle.std.specs.Prelude.{◌≡◌, eqb, ◌+◌, ◌*◌, ◌^◌, ◌<◌, ◌≤◌};
+ghost use Rattle.std.specs.Prelude.{◌≡◌, cond, eqb, ◌+◌, ◌*◌, ◌^◌, ◌<◌, ◌≤◌};
 ghost use Rattle.window.specs.Kept.{unpack, is_end, begins, ends};
 
 // How many values each field has, from the lowest: contested, length, base register, handle, start.
@@ -26,14 +26,14 @@ const START: u64 = HANDLE * HANDLES;
 const SPACE: u64 = START * STARTS;
 
 // An unmarked window.
-pub(crate) fn packed(space: u64, start: u64, length: u64, handle: u32, base: u8) -> u64
-    requires { (space < 2) × ((start < 4294967296) × (length ≤ 65536)) }
+pub(crate) fn packed(io: bool, start: u32, length: u32, handle: u32, base: u8) -> u64
+    requires { length ≤ 65536 }
     ensures { result
-        ≡ ((((space * 2 ^ 32 + start) * 2 ^ 5 + handle) * 2 ^ 3 + base) * 2 ^ 17 + length) * 2 }
+        ≡ ((((cond io 1 0 * 2 ^ 32 + start) * 2 ^ 5 + handle) * 2 ^ 3 + base) * 2 ^ 17 + length)
+        * 2 }
 {
-    ((((space * STARTS + start) * HANDLES + handle as u64) * BASES + base as u64) * LENGTHS
-        + length)
-        * MARKS
+    let place = (u64::from(io) * STARTS + u64::from(start)) * HANDLES + u64::from(handle);
+    ((place * BASES + u64::from(base)) * LENGTHS + u64::from(length)) * MARKS
 }
 
 // Whether the window is of the I/O space.

@@ -4,7 +4,7 @@ pub mod Order
 pub mod Open
 pub mod Meaning
 pub mod Packed
-pub mod Insert
+pub mod Sorted
 pub mod Sweep
 pub mod KeptArray
 pub mod Rows

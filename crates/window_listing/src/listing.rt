@@ -6,8 +6,7 @@ ghost use Rattle.window_listing.specs.Listing.{in_space, found_window, Lists};
 
 use board::address::BusAddress;
 use board::layout::Windows;
-use board::status::Status;
-use numbers::number::u64_at;
+use board::status::CallRefusal;
 use window::kept::{base_of, handle_of, is_contested, is_end, is_io, length_of, start_of};
 
 // A window in its space, with its start and length.
@@ -19,57 +18,46 @@ pub enum ListedWindow {
     Io { start: BusAddress, length: u32 },
 }
 
-// An answer of the listing.
+// What the listing says of a window.
 #[derive(Clone, Copy)]
-pub enum Listing {
-    // Number 0.
-    Found {
-        window: ListedWindow,
-        handle: u32,
-        base: u32,
-        contested: bool,
-    },
-    // Number -4, and zeros for all values.
-    Refused(Status),
+pub struct Listed {
+    pub window: ListedWindow,
+    pub handle: u32,
+    // Which base register opens it, from 0.
+    pub base: u32,
+    // Whether another window of its space shares an address with it.
+    pub contested: bool,
 }
 
 // How many windows a kept list has: those before the first number that is no window.
 fn kept_count(list: &[u64]) -> usize
     ensures { result ≡ length (unpacked list.now) }
 {
-    let mut j = 0;
-    // Invariant: j and the windows from position j on come to the windows of the whole list.
-    while j < list.len() {
-        if is_end(list[j]) {
-            return j;
-        }
-        j += 1;
-    }
-    j
+    list.iter().position(|w| is_end(*w)).unwrap_or(list.len())
 }
 
 // A window of the I/O or of the memory space.
-fn in_space(io: bool, start: u32, length: u32) -> ListedWindow
+fn in_space(io: bool, start: BusAddress, length: u32) -> ListedWindow
     ensures { result ≡ in_space io start length }
 {
     if io {
         return ListedWindow::Io {
-            start: BusAddress::of(start),
+            start: start,
             length: length,
         };
     }
     ListedWindow::Memory {
-        start: BusAddress::of(start),
+        start: start,
         length: length,
     }
 }
 
 // The window that a kept number says.
-fn listed(w: u64) -> Listing
+fn read_window(w: u64) -> Listed
     ensures { result ≡ found_window (unpack w) }
 {
-    Listing::Found {
-        window: in_space(is_io(w), start_of(w), length_of(w)),
+    Listed {
+        window: in_space(is_io(w), BusAddress::of(start_of(w)), length_of(w)),
         handle: handle_of(w),
         base: base_of(w),
         contested: is_contested(w),
@@ -77,11 +65,12 @@ fn listed(w: u64) -> Listing
 }
 
 // The window at index n of the kept list, from 0; past the end DEVICE_NOT_FOUND.
-pub fn list_window(windows: &Windows, n: u32) -> Listing
+pub fn list_window(windows: &Windows, n: u32) -> Result<Listed, CallRefusal>
     ensures { Lists (unpacked windows.now) n result }
 {
-    if kept_count(windows) <= n as usize {
-        return Listing::Refused(Status::DEVICE_NOT_FOUND);
+    let n = n as usize;
+    if kept_count(windows) <= n {
+        return Err(CallRefusal::DeviceNotFound);
     }
-    listed(u64_at(windows, n as usize))
+    Ok(read_window(windows[n]))
 }

@@ -10,11 +10,11 @@ loop-i-preserved c =
     let a = c.args in
     let e : a.w - l.i ≡ suc (a.w - (l.i + 1)) = omega arith in
     let p : a.register + (l.i + 1) ≡ a.register + l.i + 1 = omega arith in
-    record { within = omega arith; rest = rw (c.write_byte.ensures, p) (rw e at l.invariant.rest) }
+    rw (c.write_byte.ensures, p) (rw e at l.invariant)
 
 pub returns : goal.returns
 unfolding bytes_written
 returns c =
     let l = c.loop-i in
     let e : c.args.w - l.i ≡ 0 = omega arith in
-    rw e at l.invariant.rest
+    rw e at l.invariant

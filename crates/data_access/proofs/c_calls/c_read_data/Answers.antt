@@ -1,30 +1,16 @@
--- `c_read_data`: what is at the target that a known width and edition are for, or the refusal.
-use Rattle.std.proofs.Common.{refl, sym, ◌∙◌}
-use Rattle.board.specs.FromC.{width_from_c}
-use Rattle.call_edition.proofs.Named.{named_known, named_unknown}
-use Rattle.data_cells.proofs.Inside.{target_inside}
-use Rattle.data_access.specs.Data.{read_at}
-use Rattle.data_access.specs.CCalls.{c_read_data}
-use Rattle.data_access.proofs.Known.{of_known, unknown_read_lem}
+-- `c_read_data`: what the cells hold, or the refusal.
+use Rattle.std.proofs.Common.{sym, ◌∙◌, rules}
+use Rattle.board.specs.FromC.{width_from_c, space_from_c}
+use Rattle.board.specs.Spaces.{space_number}
+use Rattle.data_access.proofs.Known.{inside_lem, read_lem}
 use Rattle.data_access.proofs.c_calls.c_read_data.Goals as goal
 
-pub read_at-requires : goal.read_at-requires
-read_at-requires c at order e = target_inside _ _ _ _ _ at order (sym c.cell_target_of-target.ensures ∙ e)
+pub returns-in_err-a : goal.returns-in_err-a
+returns-in_err-a c =
+    let a = c.args in
+    let m = a.map in
+    let e = rw (← c.c_access.ensures, c.in_err-a.was) at (read_lem m.header.now m.records.now m.windows.now m.offsets.now (space_number (space_from_c a.io)) a.handle c.in_edition-named.result (width_from_c a.width) a.cells.now) in
+    search rules
 
-pub returns-in-Known : goal.returns-in-Known
-returns-in-Known c =
-    of_known c_read_data read_at
-    c.width_from_c.ensures c.in-Known.is
-    c.space_from_c.ensures
-    (rw c.in_edition.ensures at (sym c.bus_of.ensures ∙ c.in-At.is))
-    (rw c.data_address-at.ensures at c.find_window-finding.ensures)
-    c.place_of_handle-function.ensures c.cell_target_of-target.ensures
-    c.read_at.ensures refl
-
-pub returns-in-Other : goal.returns-in-Other
-returns-in-Other c = rw (sym c.width_from_c.ensures ∙ c.in-Other.is, (named_known _ _ _ (rw c.in_edition.ensures at (sym c.bus_of.ensures ∙ c.in-At.is))).0)
-
-pub returns-in-UnknownEdition : goal.returns-in-UnknownEdition
-returns-in-UnknownEdition c =
-    unknown_read_lem (width_from_c c.args.width) _ _ _ _ _ _ _ _
-    (named_unknown _ _ (rw c.in_edition.ensures at (sym c.bus_of.ensures ∙ c.in-UnknownEdition.is)))
+pub value_at-requires : goal.value_at-requires
+value_at-requires c = inside_lem _ _ _ _ _ _ _ (width_from_c c.args.width) _ c.in_ok-a.a (sym c.c_access.ensures ∙ c.in_ok-a.was)

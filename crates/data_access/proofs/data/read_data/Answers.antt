@@ -1,7 +1,7 @@
--- `read_data`: what is at the target, whose cells are in the buffer.
+-- `read_data`: the cells of the target are in the buffer.
 use Rattle.std.proofs.Common.{sym, ◌∙◌}
 use Rattle.data_cells.proofs.Inside.{target_inside}
 use Rattle.data_access.proofs.data.read_data.Goals as goal
 
-pub read_at-requires : goal.read_at-requires
-read_at-requires c at order e = target_inside _ _ _ _ _ at order (sym c.cell_target-target.ensures ∙ e)
+pub value_at-requires : goal.value_at-requires
+value_at-requires c = target_inside _ _ _ _ _ c.in_ok-target.target (sym c.cell_target.ensures ∙ c.in_ok-target.was)

@@ -1,7 +1,7 @@
--- `write_data`: what is at the target, whose cells are in the buffer.
+-- `write_data`: the cells of the target are in the buffer.
 use Rattle.std.proofs.Common.{sym, ◌∙◌}
 use Rattle.data_cells.proofs.Inside.{target_inside}
 use Rattle.data_access.proofs.data.write_data.Goals as goal
 
-pub write_at-requires : goal.write_at-requires
-write_at-requires c at order e = target_inside _ _ _ _ _ at order (sym c.cell_target-target.ensures ∙ e)
+pub put_value-requires : goal.put_value-requires
+put_value-requires c = target_inside _ _ _ _ _ c.in_ok-target.target (sym c.cell_target.ensures ∙ c.in_ok-target.was)

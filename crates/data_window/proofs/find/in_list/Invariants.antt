@@ -1,5 +1,5 @@
 -- `in_list`: the numbers still to come are judged as the whole list is.
-use Rattle.std.proofs.Common.{length, drop, ◌-◌, ◌≡◌}
+use Rattle.std.proofs.Common.{drop, ◌-◌, ◌≡◌}
 use Rattle.board.specs.Layout.{widths}
 use Rattle.board.specs.Spaces.{space_number}
 use Rattle.numbers.specs.Numbers.{bytes}
@@ -7,10 +7,7 @@ use Rattle.window.specs.Kept.{unpacked}
 use Rattle.data_window.specs.Find.{offers, in_list}
 use Rattle.data_window.proofs.find.in_list.Given as goal
 
-abbrev pub invariant-loop-j : goal.invariant-loop-j
-invariant-loop-j l =
-    in_list (λ b. offers (bytes l.width) (widths l.records (l.handle - 1) b)) (space_number l.space) l.handle l.address (unpacked (drop l.j l.list))
+abbrev pub invariant-loop-w : goal.invariant-loop-w
+invariant-loop-w l =
+    in_list (λ b. offers (bytes l.width) (widths l.records (l.handle - 1) b)) (space_number l.space) l.handle l.address (unpacked (drop l.w-index l.list))
     ≡ in_list (λ b. offers (bytes l.width) (widths l.records (l.handle - 1) b)) (space_number l.space) l.handle l.address (unpacked l.list)
-
-abbrev pub decreases-loop-j : goal.decreases-loop-j
-decreases-loop-j l = length l.list - l.j

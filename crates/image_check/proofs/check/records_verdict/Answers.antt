@@ -8,30 +8,21 @@ pub returns-then-sum_of-said : goal.returns-then-sum_of-said
 returns-then-sum_of-said c =
     let s = c.sum_of.result in
     let e = c.sum_of.ensures ∙ sum_whole c.args.records.now (omega arith) in
-    c.plain.ensures ∙ simp (← e, ne_eqb s c.args.said (λ z. omega (arith, c.if-sum_of-said.true)))
+    simp (← e, ne_eqb s c.args.said (λ z. omega (arith, c.if-sum_of-said.true)))
 
-pub returns-then-bad-count : goal.returns-then-bad-count
-returns-then-bad-count c =
+pub returns-in-Some : goal.returns-in-Some
+returns-in-Some c =
     let a = c.args in
     let s = c.sum_of.result in
     let e = c.sum_of.ensures ∙ sum_whole a.records.now (omega arith) in
-    simp (
-      ← e,
-      eq-eqb s a.said (omega arith),
-      ← c.first_bad-bad.ensures,
-      lt-ltb c.first_bad-bad.result a.count (omega arith),
-    )
+    let found = c.in-Some.ensures in
+    simp (← e, eq-eqb s a.said (omega arith), found.1, lt-ltb c.in-Some.place a.count found.0)
 
 pub returns : goal.returns
 returns c =
     let a = c.args in
     let s = c.sum_of.result in
     let e = c.sum_of.ensures ∙ sum_whole a.records.now (omega arith) in
+    let none = c.in_default.ensures in
     c.cells_verdict.ensures
-    ∙ simp (
-      ← e,
-      eq-eqb s a.said (omega arith),
-      ← c.first_bad-bad.ensures,
-      le-ltb c.first_bad-bad.result a.count (omega arith),
-      c.total_of.ensures,
-    )
+    ∙ simp (← e, eq-eqb s a.said (omega arith), none, le-ltb a.count a.count (omega arith), c.total_of.ensures)

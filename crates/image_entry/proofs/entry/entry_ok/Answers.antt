@@ -20,5 +20,5 @@ unfolding entry_ok
 returns c =
     let e = c.args.e in
     let good : form_ok e ≡ true = sym c.if-not-form_ok.ensures in
-    let size : c.power-size.result ≡ 2 ^ e.exponent = c.power-size.ensures ∙ power_small e.exponent (form_exponent e good) in
-    rw (c.low_bits_ok.ensures, c.mask_ok.ensures, size, ne_eqb _ _ c.if-e-eq0.false, good)
+    let size : c.power-size.result ≡ 2 ^ e.exponent = c.power-size.ensures ∙ rw c.from.ensures (power_small e.exponent (form_exponent e good)) in
+    rw (c.window_ok.ensures, size, ne_eqb _ _ c.if-e-eq0.false, good)

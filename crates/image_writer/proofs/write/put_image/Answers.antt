@@ -20,7 +20,8 @@ pub returns : goal.returns
 returns c =
     let n = record_size * c.args.count in
     let r = c.args.records.now in
-    let few : length (take n r) ≤ functions_max * image_record = rw (length-take-le n r (omega arith)) (omega arith) in
-    rw (c.copy_from_slice.ensures.after, c.copy_from_slice-2.ensures.after)
+    let long : length (take n r) ≡ n = length-take-le n r (omega arith) in
+    let few : length (take n r) ≤ functions_max * image_record = omega arith in
+    rw (c.copy_from_slice.ensures.after, c.copy_from_slice-2.ensures.after, long)
     (put_after n _ r c.args.out.now _ (omega arith) (omega arith)
-    ∙ rw (c.trailer-t.ensures, c.sum_of.ensures, sum_whole (take n r) few))
+    ∙ rw (c.trailer.ensures, c.sum_of.ensures, sum_whole (take n r) few))

@@ -10,6 +10,3 @@ invariant-loop-e l = record {
   within : l.e ≤ functions_max;
   left : past_last (λ i. up_to_line l.records l.line (hook_at l.hooks i)) l.e ≡ position_for l.records l.hooks l.line;
 }
-
-abbrev pub decreases-loop-e : goal.decreases-loop-e
-decreases-loop-e l = l.e

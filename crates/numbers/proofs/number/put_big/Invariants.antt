@@ -1,5 +1,5 @@
 -- `put_big`: the bytes still to store, from the slice as it stands, end as all of them do.
-use Rattle.std.proofs.Common.{◌-◌, ◌≡◌, ◌+◌, ◌/◌, ◌^◌, ◌≤◌, length, drop}
+use Rattle.std.proofs.Common.{◌≡◌, ◌+◌, ◌/◌, ◌^◌, ◌≤◌, length, drop}
 use Rattle.std.proofs.lemmas.List.Edits.{sets}
 use Rattle.numbers.specs.Numbers.{big_bytes, reversed}
 use Rattle.numbers.proofs.number.put_big.Given as goal
@@ -11,6 +11,3 @@ invariant-loop-i l = record {
   sized : length l.s ≡ length l.fn.s;
   ends : sets l.s (l.at + l.i) (drop l.i (big_bytes l.w l.value)) ≡ sets l.fn.s l.at (big_bytes l.w l.value);
 }
-
-abbrev pub decreases-loop-i : goal.decreases-loop-i
-decreases-loop-i l = l.w - l.i

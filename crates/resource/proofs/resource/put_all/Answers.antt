@@ -6,13 +6,13 @@ use Rattle.resource.specs.Resource.{source_of}
 use Rattle.resource.proofs.Turns.{windows_one, windows_none, windows_end, last_one, put_more, put_end}
 use Rattle.resource.proofs.resource.put_all.Goals as goal
 
-pub loop-b-preserved-then-not-is_window : goal.loop-b-preserved-then-not-is_window
-loop-b-preserved-then-not-is_window c =
+pub loop-base-preserved-then-not-has_window : goal.loop-base-preserved-then-not-has_window
+loop-base-preserved-then-not-has_window c =
     let a = c.args in
-    let l = c.loop-b in
+    let l = c.loop-base in
     let s = source_of a.records.now a.registers.now a.windows.now a.handle in
-    let e = windows_none s.exponent l.b (omega arith)
-    (rw (← c.place-function.ensures, ← c.exponent.ensures) (sym c.is_window.ensures ∙ c.if-not-is_window.true)) in
+    let e = windows_none s.exponent l.base (omega arith)
+    (rw (← c.place-function.ensures) (sym c.has_window.ensures ∙ c.if-not-has_window.true)) in
     record {
       few = omega arith;
       sized = l.invariant.sized;
@@ -20,13 +20,13 @@ loop-b-preserved-then-not-is_window c =
       ends = rw e at l.invariant.ends;
     }
 
-pub loop-b-preserved : goal.loop-b-preserved
-loop-b-preserved c =
+pub loop-base-preserved : goal.loop-base-preserved
+loop-base-preserved c =
     let a = c.args in
-    let l = c.loop-b in
+    let l = c.loop-base in
     let s = source_of a.records.now a.registers.now a.windows.now a.handle in
-    let e = windows_one s.exponent l.b (omega arith)
-    (rw (← c.place-function.ensures, ← c.exponent.ensures) (sym c.is_window.ensures ∙ c.if-not-is_window.false)) in
+    let e = windows_one s.exponent l.base (omega arith)
+    (rw (← c.place-function.ensures) (sym c.has_window.ensures ∙ c.if-not-has_window.false)) in
     let t = rw e at l.invariant.left in
     record {
       few = omega arith;
@@ -39,5 +39,5 @@ pub returns : goal.returns
 returns c =
     let a = c.args in
     let s = source_of a.records.now a.registers.now a.windows.now a.handle in
-    let e = windows_end s.exponent c.loop-b.b c.loop-b-test.false in
-    sym (put_end s c.loop-b.out (size * c.loop-b.n)) ∙ rw e at c.loop-b.invariant.ends
+    let e = windows_end s.exponent c.loop-base.base c.loop-base-test.false in
+    sym (put_end s c.loop-base.out (size * c.loop-base.n)) ∙ rw e at c.loop-base.invariant.ends

@@ -6,16 +6,13 @@ use Rattle.resource_descriptor.specs.Descriptor.{size, descriptors_bytes}
 use Rattle.resource.specs.Resource.{windows_from, described, descriptors, source_of}
 use Rattle.resource.proofs.resource.put_all.Given as goal
 
-abbrev pub invariant-loop-b : goal.invariant-loop-b
-invariant-loop-b l =
+abbrev pub invariant-loop-base : goal.invariant-loop-base
+invariant-loop-base l =
     let s = source_of l.records l.registers l.windows l.handle in
-    let w = windows_from s.exponent (bases - l.b) l.b in
+    let w = windows_from s.exponent (bases - l.base) l.base in
     record {
-      few : l.n ≤ l.b;
+      few : l.n ≤ l.base;
       sized : length l.out ≡ length l.fn.out;
       left : l.n + length w ≡ l.count;
       ends : sets l.out (size * l.n) (descriptors_bytes (described s w)) ≡ sets l.fn.out 0 (descriptors_bytes (descriptors s));
     }
-
-abbrev pub decreases-loop-b : goal.decreases-loop-b
-decreases-loop-b l = bases - l.b

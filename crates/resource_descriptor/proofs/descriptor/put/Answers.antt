@@ -17,5 +17,7 @@ returns c =
       c.put_big-3.ensures,
       c.put_big-2.ensures,
       c.put_big.ensures,
+      c.from-2.ensures,
+      c.from.ensures,
     )
     (stored_fields _ _ _)

@@ -1,9 +1,12 @@
--- `find_pci_classcode`: an unknown edition refuses before any function is looked at.
-use Rattle.std.proofs.Common.{sym, ◌∙◌}
-use Rattle.search.specs.Search.{sought_at}
+-- `find_pci_classcode`: where nothing refuses, the functions of the class are found.
+use Rattle.std.proofs.Common.{rules, sym, ◌∙◌}
+use Rattle.board.specs.Layout.{register_byte}
+use Rattle.search.specs.Search.{class_matches, sought_at}
 use Rattle.search.proofs.Searches.{finds}
 use Rattle.search.proofs.search.find_pci_classcode.Goals as goal
 
-pub returns-then-not-is_known : goal.returns-then-not-is_known
+pub returns : goal.returns
 unfolding sought_at
-returns-then-not-is_known c = finds _ _ _ (rw (sym c.is_known.ensures ∙ c.if-not-is_known.true))
+returns c =
+    let e = c.find.ensures (λ i. class_matches c.class_of-later.result (register_byte c.args.registers.now i)) (λ i b p. search rules) in
+    finds _ _ _ (rw (sym c.is_known.ensures ∙ c.if-not-is_known.false, ← c.class_of-later.ensures, ← c.function_count.ensures) e)

@@ -1,19 +1,14 @@
--- `kept_count`: a turn counts a window, until the first number that is none or the end of the list.
-use Rattle.std.proofs.Common.{sym, ◌∙◌, arith}
-use Rattle.window_listing.proofs.Answers.{counted_none, counted_one, counted_end}
+-- `kept_count`: the windows are those before the first number that is none.
+use Rattle.std.proofs.Common.{◌≡◌, ◌∙◌, ap, length, rules, unwrap_or}
+use Rattle.std.specs.List.{position}
+use Rattle.std.proofs.lemmas.Iterator.{YieldsList-from_slice}
+use Rattle.std.proofs.lemmas.Iterator.Search.{position_from_yields_List}
+use Rattle.window.specs.Kept.{is_end}
+use Rattle.window_listing.proofs.Answers.{counted}
 use Rattle.window_listing.proofs.listing.kept_count.Goals as goal
 
-pub returns-then-is_end : goal.returns-then-is_end
-returns-then-is_end c =
-    let l = c.loop-j in
-    let n = counted_none c.args.list.now l.j c.loop-j-test.true (sym c.is_end.ensures ∙ c.if-is_end.true) in
-    omega (arith, n)
-
-pub loop-j-preserved : goal.loop-j-preserved
-loop-j-preserved c =
-    let l = c.loop-j in
-    let n = counted_one c.args.list.now l.j c.loop-j-test.true (sym c.is_end.ensures ∙ c.if-is_end.false) in
-    record { within = omega arith; counted = omega (arith, n) }
-
 pub returns : goal.returns
-returns c = omega (arith, counted_end c.args.list.now c.loop-j.j c.loop-j-test.false)
+returns c =
+    let l = c.args.list.now in
+    let p : c.position.result ≡ position is_end l = position_from_yields_List is_end _ _ _ c.position.ensures.ran (YieldsList-from_slice l cc) (λ x b q h. search rules) in
+    c.unwrap_or.ensures ∙ ap (λ o. unwrap_or o (length l)) p ∙ counted l
