@@ -131,6 +131,11 @@ pub find_means : FindMeans
 find_means good short offered l space w handle address f =
     (λ e. rw e at (met good short offered l space w handle address), given_found good short offered l space w handle address f)
 
+-- the checks know of no edition
+pub never_unknown : (good short : Bool) (offered : ℕ → Bool) (l : List Window) (space w handle address : ℕ)
+    → find good short offered l space w handle address ≡ Err UnknownEdition → ⊥
+never_unknown good short offered l space w handle address e = (find_means good short offered l space w handle address (Err UnknownEdition)).0 e
+
 -- what the laws above cite of a window that is found
 pub record FoundFor (l : List Window) (space handle address : ℕ) (f : Found) : Type 0 where
   pub window : Window

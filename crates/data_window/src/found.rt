@@ -4,7 +4,7 @@ ghost use Rattle.std.specs.Prelude.{◌≡◌};
 ghost use Rattle.data_window.specs.Find.{reason_number, found_window};
 
 use crate::find::Finding;
-use crate::refusal::Reason;
+use crate::refusal::{NO_REASON, Reason};
 
 // What is handed back, in numbers: the base register of the window and the bytes from the bus
 // address to its end, which are both 0 where the call is refused; and the number and the reason,
@@ -16,9 +16,6 @@ pub struct FoundWindow {
     pub remaining: u32,
     pub reason: u8,
 }
-
-// No reason: of an accepted access, and of the refusals that have none.
-const NO_REASON: u8 = 0;
 
 // The number of a reason, where there is one.
 pub fn reason_number(reason: Option<Reason>) -> u8

@@ -28,6 +28,9 @@ pub enum DataRefusal {
     PastBuffer,
 }
 
+// No reason: of an accepted access, and of the refusals that have none.
+pub const NO_REASON: u8 = 0;
+
 // What tells apart the refusals of -8 and the width that is missing.
 #[derive(Clone, Copy, Debug, PartialEq, Eq)]
 pub enum Reason {
