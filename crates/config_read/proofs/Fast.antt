@@ -3,7 +3,9 @@ use Prim.Native.Nat.{ℕ, ◌-◌, ◌^◌}
 use mathlib.Core.Bool.{true, false, true≢false, false≢true}
 use mathlib.Core.Logic.{◌↔◌}
 use mathlib.Core.Path.{◌≡◌, refl}
-use Rattle.std.specs.Prelude.{Ok, Err}
+use Rattle.std.specs.Prelude.{Result, Ok, Err}
+use Rattle.board.specs.Handles.{is_handle}
+use Rattle.board.specs.Layout.{register_byte}
 use Rattle.board.specs.Reads.{Read, value_of, fast_of}
 use Rattle.board.specs.Statuses.{refusal_number, number_of, successful}
 use Rattle.board.specs.declared.status.CallRefusal.{CallRefusal}
@@ -17,7 +19,8 @@ use Rattle.board.specs.declared.status.CallRefusal.TheVariants.{
   GeneralError,
   BadHandle,
 }
-use Rattle.config_read.specs.Read.{read_config}
+use Rattle.config_read.specs.Target.{target}
+use Rattle.config_read.specs.Read.{read_of, fast_read_of, read_config}
 use Rattle.config_read.specs.Meaning.{FastReadAgrees}
 
 -- no refusal has the number of success
@@ -38,6 +41,14 @@ of_read : (w : ℕ) (read : Read)
 of_read w (Ok v) = ((λ e. refl, λ e. refl), (λ e. refl, λ e. absurd (false≢true e)))
 of_read w (Err r) = ((λ e. absurd (true≢false e), λ e. absurd (never r e)), (λ e. absurd (true≢false e), λ e. refl))
 
+-- at any target a fast read is what is made of the plain read
+fast_is_plain : (r : ℕ → ℕ → ℕ) (w register : ℕ) (t : Result ℕ CallRefusal)
+    → fast_read_of r w register t ≡ fast_of w (read_of r w register t)
+fast_is_plain r w register (Ok i) = refl
+fast_is_plain r w register (Err s) = refl
+
 -- THEOREM: an accepted fast read is the plain read; a refused one is refused as the plain read is, and gives all ones
 pub fast_read_lem : FastReadAgrees
-fast_read_lem w header registers handle register = of_read w (read_config w header registers handle register)
+fast_read_lem w header registers handle register =
+    rw (fast_is_plain (register_byte registers) w register (target (is_handle header handle) w handle register))
+    (of_read w (read_config w header registers handle register))
