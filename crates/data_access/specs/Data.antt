@@ -1,7 +1,7 @@
 -- Data reads and writes: document 01, "Data and byte order" and "Numbers handed back"; the address
 -- is named in a call edition: request E1.
 use Rattle.std.specs.Prelude.{ℕ, ◌+◌, ◌≤◌, List, ◌≡◌, length, Ok, Err}
-use Rattle.board.specs.Reads.{Read, fast_of}
+use Rattle.board.specs.Reads.{Read, accepted_fast, refused_fast}
 use Rattle.board.specs.Statuses.{Status, successful}
 use Rattle.board.specs.declared.read.FastRead.{FastRead}
 use Rattle.call_edition.specs.declared.edition.InEdition.{InEdition}
@@ -18,7 +18,8 @@ read_at w cells (Ok c) = Ok (cells_value c.order w c.at cells)
 read_at w cells (Err r) = Err (refusal_of r)
 
 abbrev pub fast_read_at : ℕ → List ℕ → CellTarget → FastRead
-fast_read_at w cells target = fast_of w (read_at w cells target)
+fast_read_at w cells (Ok c) = accepted_fast (cells_value c.order w c.at cells)
+fast_read_at w cells (Err r) = refused_fast w
 
 -- a write's status, and the cells that it leaves
 pub record DataWritten : Type 0 where
@@ -41,7 +42,8 @@ read_data w header records windows offsets cells space handle address =
 abbrev pub fast_read_data : ℕ → List ℕ → List ℕ → List ℕ → List ℕ → List ℕ → ℕ → ℕ → InEdition
     → FastRead
 fast_read_data w header records windows offsets cells space handle address =
-    fast_of w (read_data w header records windows offsets cells space handle address)
+    fast_read_at w cells
+    (cell_target w header records windows offsets (length cells) space handle address)
 
 abbrev pub write_data : ℕ → List ℕ → List ℕ → List ℕ → List ℕ → List ℕ → ℕ → ℕ → InEdition → ℕ
     → DataWritten
