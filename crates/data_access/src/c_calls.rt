@@ -80,8 +80,7 @@ pub fn c_read_data(
         (in_edition address edition) }
 {
     let named = in_edition(address, edition);
-    let room = cells.len();
-    let a = c_access(map, room, io, width, handle, named)?;
+    let a = c_access(map, cells.len(), io, width, handle, named)?;
     Ok(value_at(cells, a.target, a.width))
 }
 
