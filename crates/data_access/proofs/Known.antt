@@ -23,8 +23,8 @@ use Rattle.data_cells.specs.Cells.{CellTarget, cell_target_of, cell_target_in, c
 use Rattle.data_cells.proofs.Inside.{target_inside}
 use Rattle.data_cells.proofs.Named.{target_named}
 use Rattle.data_access.specs.declared.c_calls.Access.{Access}
-use Rattle.data_access.specs.Data.{read_at}
-use Rattle.data_access.specs.CCalls.{access_of, c_access, c_read_data}
+use Rattle.data_access.specs.Data.{data_written, read_at}
+use Rattle.data_access.specs.CCalls.{access_of, c_access, c_read_data, no_fast_read, c_fast_read_data, c_write_data}
 
 -- what is read of the width and the cells of a call
 abbrev pub read_of : List ℕ → Result Access CallRefusal → Read
@@ -60,6 +60,25 @@ module _ (header records windows offsets : List ℕ) (space handle : ℕ) (addre
   unfolding cell_target_of
   unknown_lem (Some width) room unknown = rw unknown
   unknown_lem None room unknown = rw unknown
+
+  -- so each call, whatever the cells: a read, a fast read, and a write, which leaves them
+  pub unknown_read_lem : (asked : Option Width) (cells : List ℕ) → is_known address ≡ false
+      → Err FuncNotSupported ≡ c_read_data asked header records windows offsets cells space handle address
+  unfolding cell_target_of
+  unknown_read_lem (Some width) cells unknown = rw unknown
+  unknown_read_lem None cells unknown = rw unknown
+
+  pub unknown_fast_lem : (asked : Option Width) (cells : List ℕ) → is_known address ≡ false
+      → no_fast_read asked ≡ c_fast_read_data asked header records windows offsets cells space handle address
+  unfolding cell_target_of
+  unknown_fast_lem (Some width) cells unknown = rw unknown
+  unknown_fast_lem None cells unknown = refl
+
+  pub unknown_write_lem : (asked : Option Width) (cells : List ℕ) (value : ℕ) → is_known address ≡ false
+      → data_written (Err FuncNotSupported) cells ≡ c_write_data asked header records windows offsets cells space handle address value
+  unfolding cell_target_of
+  unknown_write_lem (Some width) cells value unknown = rw unknown
+  unknown_write_lem None cells value unknown = rw unknown
 
   -- the cells that are given are among those lent
   pub inside_lem : (asked : Option Width) (room : ℕ) (a : Access)
