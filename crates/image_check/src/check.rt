@@ -63,7 +63,8 @@ pub fn check_any_length(image: &[u8], room: usize) -> Verdict
 {
     let t = trailer_of(image);
     form_refusal(image.len(), t.edition, t.count, t.distance)?;
-    let records = &image[records_range(image.len(), t.count)];
+    let range = records_range(image.len(), t.count);
+    let records = &image[range.from..range.to];
     records_verdict(records, t.count as usize, t.sum, room)
 }
 

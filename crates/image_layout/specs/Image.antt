@@ -3,7 +3,7 @@
 use Rattle.std.specs.Prelude.{ℕ, ◌+◌, ◌-◌, ◌*◌, List, ◌++◌, length, take, drop, sum_by}
 use Rattle.numbers.specs.Numbers.{byte_at, big, big_bytes}
 use Rattle.board.specs.Layout.{record_size}
-use Rattle.std.specs.declared.ops.Range.{Range}
+use Rattle.image_layout.specs.declared.layout.Range.{Range}
 use Rattle.image_layout.specs.declared.trailer.Trailer.{Trailer}
 
 -- bytes of a record as an image has it, and of the trailer
@@ -44,9 +44,9 @@ trailer_of image =
     }
 
 -- where the records stand in an image of so many bytes
-abbrev pub records_range : ℕ → ℕ → Range ℕ
+abbrev pub records_range : ℕ → ℕ → Range
 records_range long count =
-    record { start = long - image_size count; end = long - image_size count + image_record * count }
+    record { from = long - image_size count; to = long - image_size count + image_record * count }
 
 -- the bytes of the records, and those of the record at place i of them
 abbrev pub records_of : List ℕ → List ℕ

@@ -12,15 +12,15 @@ use Rattle.image_layout.specs.Image.{
   sum,
   image_of,
 }
-use Rattle.std.specs.declared.ops.Range.{Range}
+use Rattle.image_layout.specs.declared.layout.Range.{Range}
 use Rattle.image_layout.specs.declared.trailer.Trailer.{Trailer}
 
 -- the numbers of a trailer in the paper's order, and the two positions of a range
 abbrev trailer_numbers : Trailer → List ℕ
 trailer_numbers t = t.distance ∷ t.count ∷ t.edition ∷ t.sum ∷ []
 
-abbrev positions : Range ℕ → List ℕ
-positions r = r.start ∷ r.end ∷ []
+abbrev positions : Range → List ℕ
+positions r = r.from ∷ r.to ∷ []
 
 -- twelve bytes, each another, and notes
 abbrev twelve : List ℕ

@@ -3,13 +3,18 @@
 ghost use Rattle.std.specs.Prelude.{◌≡◌};
 ghost use Rattle.image_layout.specs.Image.{image_size, records_range};
 
-use std::ops::Range;
-
 // Bytes of a record as an image has it; how long a kept one is, the board says.
 pub const IMAGE_RECORD: usize = 544;
 
 // Bytes of the trailer.
 pub const TRAILER: usize = 12;
+
+// A part of an image: where it begins, and the first position past it.
+#[derive(Clone, Copy)]
+pub struct Range {
+    pub from: usize,
+    pub to: usize,
+}
 
 // Bytes of count records and the trailer.
 pub fn image_size(count: u32) -> usize
@@ -19,9 +24,12 @@ pub fn image_size(count: u32) -> usize
 }
 
 // Where the records of an image stand that is so long and has so many.
-pub fn records_range(long: usize, count: u32) -> Range<usize>
+pub fn records_range(long: usize, count: u32) -> Range
     ensures { result ≡ records_range long count }
 {
     let from = long.saturating_sub(image_size(count));
-    from..from + IMAGE_RECORD * count as usize
+    Range {
+        from: from,
+        to: from + IMAGE_RECORD * count as usize,
+    }
 }

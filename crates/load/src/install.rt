@@ -17,7 +17,8 @@ fn copy_records(image: &[u8], count: u32, records: &mut Records)
     ensures { records.new ≡ padded (records_of image.now) }
 {
     *records = [0; FUNCTIONS * RECORD];
-    let loaded = &image[records_range(image.len(), count)];
+    let range = records_range(image.len(), count);
+    let loaded = &image[range.from..range.to];
     records[..loaded.len()].copy_from_slice(loaded);
 }
 

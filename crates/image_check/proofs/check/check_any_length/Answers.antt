@@ -15,6 +15,6 @@ pub returns : goal.returns
 returns c =
     let t = c.trailer_of-t.ensures in
     let form = rw t at c.form_refusal.ensures.value in
-    let part = range_part c.records_range.result c.args.image.now (rw t at c.records_range.ensures) in
+    let part = range_part c.records_range-range.result c.args.image.now (rw t at c.records_range-range.ensures) in
     let rest = rw (part, t) at c.records_verdict.ensures in
     rest ∙ sym (by_steps _ _ ∙ rw (← form, c.in_ok-form_refusal.was))

@@ -7,7 +7,7 @@ use Rattle.load.proofs.install.copy_records.Goals as goal
 
 pub returns : goal.returns
 returns c =
-    let r = c.records_range.result in
+    let r = c.records_range-range.result in
     rw c.copy_from_slice.ensures.after
     (copied_padded (part r c.args.image.now) _ refl
-    ∙ ap padded (range_part r c.args.image.now (rw c.requires.0 at c.records_range.ensures)))
+    ∙ ap padded (range_part r c.args.image.now (rw c.requires.0 at c.records_range-range.ensures)))
