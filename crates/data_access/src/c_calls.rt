@@ -1,10 +1,10 @@
 // Data calls as C asks for them, with numbers for widths and spaces. They do not call those of
 // `data` but are put together from the same parts: the bus address by the edition (`bus_of`), the
 // window there (`find_window`), its cells (`cell_target_of`) and the value in them. The compiler then
-// moves all of them but `find_window` into the function for C; a call of `read_data`, `cell_target`
-// or `find_named` would stay one. `c_access` and `c_read_data` have more than one caller, so that it
-// is told to move them too. The edition is tested before all else, and then the width; from there on
-// the definitions are those of `data`.
+// moves all of them into the function for C; a call of `read_data`, `cell_target` or `find_named`
+// would stay one. `find_window`, `c_access` and `c_read_data` have more than one caller, so that it is
+// told to move them too. The edition is tested before all else, and then the width; from there on the
+// definitions are those of `data`.
 ghost use Rattle.std.specs.Prelude.{◌≡◌};
 ghost use Rattle.board.specs.Spaces.{space_number};
 ghost use Rattle.board.specs.FromC.{width_from_c, space_from_c};
