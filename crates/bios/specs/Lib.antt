@@ -1,4 +1,5 @@
--- The definitions that contracts cite, and their rows.
+-- The definitions that contracts cite, their rows, and the law of what is handed to C.
+pub mod Answered
 pub mod Exports
 pub mod Layout
 pub mod Rows
