@@ -6,11 +6,9 @@ use native.Mathlib.Numerals.{add-one}
 use native.Mathlib.Omega.{arith}
 use mathlib.Core.Bool.{Bool, true, false, cond}
 use mathlib.Core.List.{List, [], ◌∷◌}
-use Rattle.std.specs.Prelude.{Option, Some, None, Ok, Err}
-use Rattle.std.specs.List.{filter, range_with_len, slice_get}
-use Rattle.std.specs.Option.{ok_or, option_map}
+use Rattle.std.specs.Prelude.{Ok, Err}
 use mathlib.Core.Logic.{◌⊎◌, inl, inr, ⊎_elim}
-use mathlib.Core.Path.{◌≡◌, refl, sym, ◌∙◌, ap}
+use mathlib.Core.Path.{◌≡◌, refl, ◌∙◌, ap}
 use Rattle.board.specs.Layout.{registers_each}
 use Rattle.numbers.specs.Numbers.{little}
 use Rattle.board.specs.declared.status.CallRefusal.TheVariants.{DeviceNotFound}
@@ -32,32 +30,6 @@ sought_number_lem (refused_with refusal) n = refl
 
 pub finds : (s : Sought) (n : ℕ) (r : Search) → r ≡ sought_at s n → Finds s n r
 finds s n r e = record { answer = e; number = ap found_number e ∙ sought_number_lem s n }
-
--- index k in std's words, the item of that index among the places that match, and its handle
-searched_nth : (m : ℕ → Bool) (i n k : ℕ)
-    → searched (matching m i n) k ≡ ok_or (option_map (λ j. j + 1) (slice_get (filter m (range_with_len i n)) k)) DeviceNotFound
-unfolding matching searched
-searched_nth m i zero k = refl
-searched_nth m i (suc n) k = by (m i) k (searched_nth m (i + 1) n)
-  where
-    by : (b : Bool) (k : ℕ)
-        → ((k : ℕ) → searched (matching m (i + 1) n) k ≡ ok_or (option_map (λ j. j + 1) (slice_get (filter m (range_with_len (i + 1) n)) k)) DeviceNotFound)
-        → searched (cond b ((i + 1) ∷ matching m (i + 1) n) (matching m (i + 1) n)) k
-        ≡ ok_or (option_map (λ j. j + 1) (slice_get (cond b (i ∷ filter m (range_with_len (i + 1) n)) (filter m (range_with_len (i + 1) n))) k)) DeviceNotFound
-    by true zero ih = refl
-    by true (suc k) ih = ih k
-    by false k ih = ih k
-
-map_same : (r : Option ℕ) → option_map (λ x. x) r ≡ r
-map_same None = refl
-map_same (Some x) = refl
-
--- so a chain that ends in `nth` answers as the search
-pub searched_by : (m : ℕ → Bool) (n k : ℕ) (place handle : Option ℕ) (r : Search)
-    → option_map (λ x. x) place ≡ slice_get (filter m (range_with_len 0 n)) k
-    → handle ≡ option_map (λ i. i + 1) place → r ≡ ok_or handle DeviceNotFound → r ≡ searched (matching m 0 n) k
-searched_by m n k place handle r e f g =
-    g ∙ ap (λ (o : Option ℕ). ok_or o DeviceNotFound) (f ∙ ap (option_map (λ i. i + 1)) (sym (map_same place) ∙ e)) ∙ sym (searched_nth m 0 n k)
 
 -- a search depends on the functions that it looks at
 pub matching_same : (m m' : ℕ → Bool) (i n : ℕ) → ((j : ℕ) → j < i + n → m j ≡ m' j) → matching m i n ≡ matching m' i n

@@ -68,11 +68,17 @@ fn find<F: Fn(u32) -> bool>(count: u32, is_match: F, index: u32) -> Result<u32, 
     ensures { (m : ℕ → Bool) → ((i : ℕ) (b : Bool) → F.post is_match i b → b ≡ m i)
         → result ≡ searched (matching m 0 count) index }
 {
-    (0..count)
-        .filter(|i| is_match(*i))
-        .nth(index as usize)
-        .map(|i| i + 1)
-        .ok_or(CallRefusal::DeviceNotFound)
+    let mut before = index;
+    // Invariant: the search from place i on, past `before` matches, answers as the whole search.
+    for i in 0..count {
+        if is_match(i) {
+            if before == 0 {
+                return Ok(i + 1);
+            }
+            before -= 1;
+        }
+    }
+    Err(CallRefusal::DeviceNotFound)
 }
 
 // The match with so many matches before it in table order: device ID in bits 31 to 16, vendor in
