@@ -5,6 +5,7 @@ pub mod Open
 pub mod Meaning
 pub mod Packed
 pub mod Sorted
+pub mod Settle
 pub mod Sweep
 pub mod KeptArray
 pub mod Rows
