@@ -2,6 +2,8 @@
 // its cases". The count is printed before the windows, so that the list is gone through twice.
 #![tactic(auto)]
 
+ghost use Rattle.std.specs.Prelude.{◌≡◌, length};
+
 use board::layout::{FUNCTIONS, HEADER, HOOK, MARK, RECORD, REGISTER_BYTES, WINDOWS, Windows};
 use board::parts::Board;
 use full_read::read_full;
@@ -12,7 +14,18 @@ use std::io;
 use std::io::Write;
 use window_listing::listing::{Listed, ListedWindow, list_window};
 
-// Space, start and length in eight hexadecimal digits, handle, base register, mark.
+// Room for the longest image and one byte more, so that a longer one is seen to be longer.
+fn input_buffer() -> [u8; IMAGE + 1]
+    ensures { 65537 ≡ length result }
+{
+    [0u8; IMAGE + 1]
+}
+
+// Room for a line: the longest has 38 bytes.
+const LINE: usize = 64;
+
+// Space, start and length in eight hexadecimal digits, handle, base register, mark. The line is put
+// together before it is written, so that it goes out by one write.
 fn show<W: Write>(out: &mut W, listed: Listed) -> io::Result<()> {
     let (space, start, length) = match listed.window {
         ListedWindow::Memory { start, length } => ("mem", start.number(), length),
@@ -23,8 +36,12 @@ fn show<W: Write>(out: &mut W, listed: Listed) -> io::Result<()> {
     } else {
         "clear"
     };
-    write!(out, "{space} {start:08x} {length:08x} ")?;
-    writeln!(out, "{} {} {mark}", listed.handle, listed.base)
+    let mut line = [0u8; LINE];
+    let mut rest = &mut line[..];
+    write!(rest, "{space} {start:08x} {length:08x} ")?;
+    writeln!(rest, "{} {} {mark}", listed.handle, listed.base)?;
+    let end = LINE.saturating_sub(rest.len());
+    out.write_all(&line[..end])
 }
 
 fn list<W: Write>(out: &mut W, windows: &Windows) -> io::Result<()> {
@@ -39,8 +56,7 @@ fn list<W: Write>(out: &mut W, windows: &Windows) -> io::Result<()> {
 }
 
 fn main(rt: HostRuntime) -> io::Result<()> {
-    // Room for the longest image and one byte more, so that a longer one is seen to be longer.
-    let mut input = [0u8; IMAGE + 1];
+    let mut input = input_buffer();
     let n = read_full(&mut rt.stdin(), &mut input)?;
     let mut cells = [0u8; CELLS as usize];
     let mut windows = [0; WINDOWS];
