@@ -69,5 +69,5 @@ pub fn is_routed(records: &Records, handle: u32) -> bool
 pub fn is_on_line(records: &Records, hook: Hook, line: u32) -> bool
     ensures { result ≡ on_line records.now line hook }
 {
-    (hook.handle != 0) & (line_of(records, hook.handle) == line)
+    hook.handle != 0 && line_of(records, hook.handle) == line
 }

@@ -1,16 +1,14 @@
--- The chain listing: the walk over the array in std's words, and what an answer says.
-use Prim.Native.Nat.{ℕ, zero, suc, ◌+◌, ◌≤◌}
+-- The chain listing: turns of the walk over the array, and what an answer says.
+use Prim.Native.Nat.{ℕ, zero, suc, ◌+◌, ◌-◌, ◌≤◌}
 use native.Mathlib.Omega.{arith}
 use mathlib.Core.Bool.{Bool, true, false, cond}
-use mathlib.Core.List.{List, [], ◌∷◌, ◌++◌, map}
-use mathlib.Core.Path.{◌≡◌, refl, sym, ◌∙◌, ap}
+use mathlib.Core.List.{List, [], ◌∷◌, ◌++◌}
+use mathlib.Core.Path.{◌≡◌, refl, ◌∙◌, ap}
 use lib.Dec.{ltb}
 use lib.ListN.{length, replicate}
 use borrow.Author.Tests.{le-ltb}
 use Rattle.board.specs.Layout.{hook_size}
-use Rattle.std.specs.Prelude.{Option, Some, None, Err}
-use Rattle.std.specs.List.{filter, range_with_len, slice_get}
-use Rattle.std.specs.Option.{ok_or, option_map}
+use Rattle.std.specs.Prelude.{Err}
 use Rattle.board.specs.Statuses.{number_of, general_error}
 use Rattle.board.specs.declared.status.CallRefusal.TheVariants.{DeviceNotFound, GeneralError}
 use Rattle.interrupt_array.specs.declared.hooks.Hook.{Hook}
@@ -18,34 +16,21 @@ use Rattle.interrupt_array.specs.Hooks.{hooks_from, chosen, last_line}
 use Rattle.interrupt_list.specs.Listing.{ChainListing, found_hook, listed_hook, chain_listing, chain_number_of, chain_values_of, hook_listed_number, hook_listed_values, chain_number, chain_values, ListsChain}
 use Rattle.interrupt_list.specs.Meaning.{ChainListed}
 
--- the chain and its listing in std's words
-hooks_mapped : (f : ℕ → Hook) (i n : ℕ) → hooks_from i n f ≡ map f (range_with_len i n)
-unfolding hooks_from
-hooks_mapped f i zero = refl
-hooks_mapped f i (suc n) = ap (λ (l : List Hook). f i ∷ l) (hooks_mapped f (i + 1) n)
+-- a turn at entry i, where one entry and the rest are left: found, a hook that is counted, an entry that is not on the line
+module _ (t : Hook → Bool) (f : ℕ → Hook) (i left rest : ℕ) (more : left ≡ suc rest) where
+  pub turn_found : (n : ℕ) → t (f i) ≡ true → n ≡ 0 → listed_hook (chosen t (hooks_from i left f)) n ≡ found_hook (f i)
+  unfolding hooks_from chosen listed_hook
+  turn_found n e z = rw (more, e, z)
 
-chosen_filtered : (t : Hook → Bool) (hs : List Hook) → chosen t hs ≡ filter t hs
-unfolding chosen
-chosen_filtered t [] = refl
-chosen_filtered t (h ∷ hs) = rw (chosen_filtered t hs)
+  pub turn_counted : (n : ℕ) → t (f i) ≡ true → (n ≡ 0 → ⊥)
+      → listed_hook (chosen t (hooks_from i left f)) n ≡ listed_hook (chosen t (hooks_from (i + 1) rest f)) (n - 1)
+  unfolding hooks_from chosen listed_hook
+  turn_counted zero e z = absurd (z refl)
+  turn_counted (suc n) e z = let back : suc n - 1 ≡ n = omega arith in rw (more, e, back)
 
-listed_nth : (hs : List Hook) (k : ℕ) → listed_hook hs k ≡ ok_or (slice_get hs k) DeviceNotFound
-unfolding listed_hook
-listed_nth [] k = refl
-listed_nth (h ∷ hs) zero = refl
-listed_nth (h ∷ hs) (suc k) = listed_nth hs k
-
-map_same : (r : Option Hook) → option_map (λ x. x) r ≡ r
-map_same None = refl
-map_same (Some x) = refl
-
--- so a chain that ends in `nth` answers as the listing
-pub listed_by : (t : Hook → Bool) (f : ℕ → Hook) (n k : ℕ) (found : Option Hook) (r : ChainListing)
-    → option_map (λ x. x) found ≡ slice_get (filter t (map f (range_with_len 0 n))) k
-    → r ≡ ok_or found DeviceNotFound → r ≡ listed_hook (chosen t (hooks_from 0 n f)) k
-listed_by t f n k found r e g =
-    g ∙ ap (λ (o : Option Hook). ok_or o DeviceNotFound) (sym (map_same found) ∙ e)
-    ∙ rw (hooks_mapped f 0 n, chosen_filtered t (map f (range_with_len 0 n))) (sym (listed_nth _ k))
+  pub turn_passed : (n : ℕ) → t (f i) ≡ false → listed_hook (chosen t (hooks_from i left f)) n ≡ listed_hook (chosen t (hooks_from (i + 1) rest f)) n
+  unfolding hooks_from chosen
+  turn_passed n e = rw (more, e)
 
 -- an answer's number and values are those that document 01 gives the index
 number_is : (chain : List Hook) (index : ℕ) → chain_number_of (listed_hook chain index) ≡ hook_listed_number chain index

@@ -12,11 +12,18 @@ use interrupt_array::hooks::{Hook, LAST_LINE, hook_at, is_on_line};
 fn listed_hook(records: &Records, hooks: &Hooks, line: u32, index: u32) -> Result<Hook, CallRefusal>
     ensures { result ≡ listed_hook (chain_of records.now hooks.now line) index }
 {
-    (0..FUNCTIONS as u32)
-        .map(|e| hook_at(hooks, e))
-        .filter(|hook| is_on_line(records, *hook, line))
-        .nth(index as usize)
-        .ok_or(CallRefusal::DeviceNotFound)
+    let mut before = index;
+    // Invariant: index `before` of the line's hooks from entry e on gives what `index` gives.
+    for e in 0..FUNCTIONS as u32 {
+        let hook = hook_at(hooks, e);
+        if is_on_line(records, hook, line) {
+            if before == 0 {
+                return Ok(hook);
+            }
+            before -= 1;
+        }
+    }
+    Err(CallRefusal::DeviceNotFound)
 }
 
 // The hook at an index of a line's chain, from 0: refused where the line is above 15, and where the

@@ -1,19 +1,35 @@
--- `listed_hook`: the chain gives the hook in std's words, and that is the hook of the listing.
-use Rattle.std.proofs.Common.{rules, arith}
-use Rattle.std.proofs.lemmas.Iterator.{YieldsList-from_range, YieldsList-from_map}
-use Rattle.std.proofs.lemmas.Iterator.Consumers.{nth_from_yields_List, YieldsList-at, YieldsList-from_filter}
+-- `listed_hook`: an entry on the line is found or counted, another passed over; past the last entry the chain is at its end.
+use Rattle.std.proofs.Common.{sym, ◌∙◌, ◌≡◌, ◌+◌, ◌-◌, suc, arith}
 use Rattle.board.specs.Layout.{functions_max}
-use Rattle.interrupt_array.specs.Hooks.{hook_at, on_line}
-use Rattle.interrupt_list.proofs.Listings.{listed_by}
+use Rattle.interrupt_array.specs.Hooks.{hooks_from, chosen}
+use Rattle.interrupt_list.specs.Listing.{listed_hook}
+use Rattle.interrupt_list.proofs.Listings.{turn_found, turn_counted, turn_passed}
 use Rattle.interrupt_list.proofs.listing.listed_hook.Goals as goal
+use Rattle.interrupt_list.proofs.listing.listed_hook.Goals.{then-is_on_line+else-before-eq0, else-is_on_line}
+
+pub returns-then-before-eq0 : goal.returns-then-before-eq0
+returns-then-before-eq0 c =
+    let l = c.loop-e in
+    let m : functions_max - l.e ≡ suc (functions_max - (l.e + 1)) = omega arith in
+    let test = sym (rw c.hook_at-hook.ensures at c.is_on_line.ensures) ∙ c.if-is_on_line.true in
+    rw c.hook_at-hook.ensures (sym (turn_found _ _ _ _ _ m _ test c.if-before-eq0.true) ∙ l.invariant.left)
+
+pub loop-e-preserved : goal.loop-e-preserved
+loop-e-preserved c =
+    let l = c.loop-e in
+    let m : functions_max - l.e ≡ suc (functions_max - (l.e + 1)) = omega arith in
+    let test = sym (rw c.hook_at-hook.ensures at c.is_on_line.ensures) in
+    record {
+      within = omega arith;
+      left = elim c.if-is_on_line.branch [
+        | then-is_on_line+else-before-eq0 w ↦ rw w.before-is (sym (turn_counted _ _ _ _ _ m _ (test ∙ w.if-is_on_line.true) w.if-before-eq0.false) ∙ l.invariant.left)
+        | else-is_on_line w ↦ rw w.before-is (sym (turn_passed _ _ _ _ _ m _ (test ∙ w.if-is_on_line.false)) ∙ l.invariant.left)
+      ];
+    }
 
 pub returns : goal.returns
+unfolding hooks_from chosen listed_hook
 returns c =
-    let a = c.args in
-    let t = on_line a.records.now a.line in
-    let found = nth_from_yields_List _ _ _ c.nth.ensures.ran
-    (YieldsList-from_filter _ t
-    (YieldsList-at c.filter.ensures.source
-    (YieldsList-from_map _ (hook_at a.hooks.now) (YieldsList-from_range 0 functions_max functions_max c.map.ensures.source (omega arith)) c.map.ensures.closure (λ x r q k. search rules)))
-    c.filter.ensures.closure (λ x b q k. search rules)) in
-    listed_by t (hook_at a.hooks.now) functions_max a.index _ _ found c.ok_or.ensures.value
+    let l = c.loop-e in
+    let e : functions_max - l.e ≡ 0 = omega arith in
+    rw e at l.invariant.left
