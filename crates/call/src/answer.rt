@@ -101,19 +101,19 @@ pub fn of_read(read: Read) -> Answer
 }
 
 // The answers of the conversions.
-pub fn of_to_cpu(to: Result<CpuAddress, CallRefusal>) -> Answer
-    ensures { result ≡ of_to_cpu to }
+pub fn of_to_cpu(cpu: Result<CpuAddress, CallRefusal>) -> Answer
+    ensures { result ≡ of_to_cpu cpu }
 {
-    match to {
+    match cpu {
         Ok(address) => with_value(Number::SUCCESSFUL.0, address.number()),
         Err(refusal) => refused(refusal),
     }
 }
 
-pub fn of_to_bus(to: Result<BusAddress, CallRefusal>) -> Answer
-    ensures { result ≡ of_to_bus to }
+pub fn of_to_bus(bus: Result<BusAddress, CallRefusal>) -> Answer
+    ensures { result ≡ of_to_bus bus }
 {
-    match to {
+    match bus {
         Ok(address) => with_value(Number::SUCCESSFUL.0, address.number()),
         Err(refusal) => refused(refusal),
     }
