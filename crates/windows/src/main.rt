@@ -2,6 +2,8 @@
 // its cases". The count is printed before the windows, so that the list is gone through twice.
 #![tactic(auto)]
 
+ghost use Rattle.std.specs.Prelude.{◌≡◌, length};
+
 use board::layout::{FUNCTIONS, HEADER, HOOK, MARK, RECORD, REGISTER_BYTES, WINDOWS, Windows};
 use board::parts::Board;
 use full_read::read_full;
@@ -11,6 +13,13 @@ use load::calls::load;
 use std::io;
 use std::io::Write;
 use window_listing::listing::{Listed, ListedWindow, list_window};
+
+// Room for the longest image and one byte more, so that a longer one is seen to be longer.
+fn input_buffer() -> [u8; IMAGE + 1]
+    ensures { 65537 ≡ length result }
+{
+    [0u8; IMAGE + 1]
+}
 
 // Space, start and length in eight hexadecimal digits, handle, base register, mark.
 fn show<W: Write>(out: &mut W, listed: Listed) -> io::Result<()> {
@@ -39,8 +48,7 @@ fn list<W: Write>(out: &mut W, windows: &Windows) -> io::Result<()> {
 }
 
 fn main(rt: HostRuntime) -> io::Result<()> {
-    // Room for the longest image and one byte more, so that a longer one is seen to be longer.
-    let mut input = [0u8; IMAGE + 1];
+    let mut input = input_buffer();
     let n = read_full(&mut rt.stdin(), &mut input)?;
     let mut cells = [0u8; CELLS as usize];
     let mut windows = [0; WINDOWS];
