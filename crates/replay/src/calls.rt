@@ -1,5 +1,7 @@
 // The calls of a trace, one by one: each is read into one room, performed there as the front of a
 // script, and printed.
+ghost use Rattle.std.specs.Prelude.{◌≡◌, length};
+
 use crate::answers::print_answer;
 use crate::forms::print_call;
 use crate::stop::Stop;
@@ -14,11 +16,21 @@ use std::io::{Read, Write};
 // The longest own buffer of a call in a trace.
 const OWN: usize = 65537;
 
+// Room for the header of a call and its own buffer.
 type Room = [u8; CALL_HEADER + OWN];
+
+// The room before the first call.
+fn empty_room() -> Room
+    ensures { 65601 ≡ length result }
+{
+    [0u8; CALL_HEADER + OWN]
+}
 
 // Reads the next call into the room, of a script from whose byte `at` on it stands; none where the
 // script ends.
-fn read_call<R: Read>(input: &mut R, room: &mut Room, at: u64) -> Result<Option<Decoded>, Stop> {
+fn read_call<R: Read>(input: &mut R, room: &mut Room, at: u64) -> Result<Option<Decoded>, Stop>
+    requires { 65601 ≡ length room.old }
+{
     let got = read_full(input, &mut room[..CALL_HEADER])?;
     if got == 0 {
         return Ok(None);
@@ -47,7 +59,7 @@ pub(crate) fn replay<R: Read, W: Write>(
     out: &mut W,
     cells: &mut [u8],
 ) -> Result<u64, Stop> {
-    let mut room: Room = [0u8; CALL_HEADER + OWN];
+    let mut room = empty_room();
     let mut board = Board {
         header: &mut [0; HEADER],
         records: &mut [0; FUNCTIONS * RECORD],
