@@ -21,6 +21,7 @@ const OWN: usize = 65537;
 // Room for the header of a call and its own buffer.
 type Room = [u8; CALL_HEADER + OWN];
 
+// The room before the first call.
 fn empty_room() -> Room
     ensures { 65601 ≡ length result }
 {
@@ -29,7 +30,9 @@ fn empty_room() -> Room
 
 // Reads the next call into the room, of a script from whose byte `at` on it stands; none where the
 // script ends.
-fn read_call<R: Read>(input: &mut R, room: &mut Room, at: u64) -> Result<Option<Decoded>, Stop> {
+fn read_call<R: Read>(input: &mut R, room: &mut Room, at: u64) -> Result<Option<Decoded>, Stop>
+    requires { 65601 ≡ length room.old }
+{
     let got = read_full(input, &mut room[..CALL_HEADER])?;
     if got == 0 {
         return Ok(None);
