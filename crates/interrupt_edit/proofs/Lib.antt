@@ -1,4 +1,3 @@
 -- The laws that proofs here and above cite, and the rows.
 pub mod Numbers
-pub mod Made
 pub mod Rows

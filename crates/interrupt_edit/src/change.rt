@@ -5,10 +5,9 @@ ghost use Rattle.board.specs.Layout.{functions_max, hook_size};
 ghost use Rattle.interrupt_array.specs.Hooks.{hook_number, array_number, array_of, hook_at};
 ghost use Rattle.interrupt_edit.specs.Changes.{after_hook, after_unhook, after_change};
 
-use board::layout::{HOOK, Hooks};
+use board::layout::{FUNCTIONS, HOOK, Hooks};
 use interrupt_array::hooks::Hook;
 use numbers::number::item_or;
-use std::array;
 
 // What happens to the array: a hook comes in at a position, or the one there goes out.
 #[derive(Clone, Copy)]
@@ -70,5 +69,8 @@ pub fn apply(hooks: &mut Hooks, change: Change)
     ensures { hooks.new ≡ array_of (after_change change (hook_at hooks.old)) }
 {
     let old = *hooks;
-    *hooks = array::from_fn(|j| number_after(&old, change, j));
+    // Invariant: the first j numbers are those of the array after the change.
+    for j in 0..HOOK * FUNCTIONS {
+        hooks[j] = number_after(&old, change, j);
+    }
 }

@@ -28,7 +28,9 @@ fn is_free(hooks: &Hooks, handle: u32) -> bool
     position_of(hooks, handle).is_none() & (hook_at(hooks, LAST).handle == 0)
 }
 
-// Puts a hook last on the chain of its function's line.
+// Puts a hook last on the chain of its function's line. This and the next are no calls, so that a
+// refusal costs its tests alone.
+#[inline(always)]
 pub fn hook_interrupt(header: &Header, records: &Records, hooks: &mut Hooks, hook: Hook) -> Status
     ensures { hook_outcome result hooks.new
         ≡ hook_interrupt header.now records.now hooks.old
@@ -55,6 +57,7 @@ pub fn hook_interrupt(header: &Header, records: &Records, hooks: &mut Hooks, hoo
 }
 
 // Takes a function's hook from its chain.
+#[inline(always)]
 pub fn unhook_interrupt(header: &Header, hooks: &mut Hooks, handle: u32) -> Status
     ensures { hook_outcome result hooks.new
         ≡ unhook_interrupt header.now hooks.old handle }

@@ -11,7 +11,7 @@ use interrupt_array::hooks::{Hook, hook_at, line_of};
 fn is_up_to_line(records: &Records, hook: Hook, line: u32) -> bool
     ensures { result ≡ up_to_line records.now line hook }
 {
-    (hook.handle != 0) & (line_of(records, hook.handle) <= line)
+    hook.handle != 0 && line_of(records, hook.handle) <= line
 }
 
 // Where a new hook on a line goes: after the last hook on it or on a line below it.

@@ -9,6 +9,7 @@ use board::status::CallRefusal;
 use interrupt_array::hooks::{Hook, LAST_LINE, hook_at, is_on_line};
 
 // The hook with so many hooks of its line before it.
+#[inline(always)]
 fn listed_hook(records: &Records, hooks: &Hooks, line: u32, index: u32) -> Result<Hook, CallRefusal>
     ensures { result ≡ listed_hook (chain_of records.now hooks.now line) index }
 {
@@ -27,7 +28,8 @@ fn listed_hook(records: &Records, hooks: &Hooks, line: u32, index: u32) -> Resul
 }
 
 // The hook at an index of a line's chain, from 0: refused where the line is above 15, and where the
-// index is past the end.
+// index is past the end. It is no call, so that the hook goes to its reader without memory between.
+#[inline(always)]
 pub fn list_chain(
     records: &Records,
     hooks: &Hooks,

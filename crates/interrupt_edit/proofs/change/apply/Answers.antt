@@ -1,12 +1,24 @@
--- `apply`: the closure gives each number of the array after the change.
-use Rattle.std.proofs.Common.{rules, ◌*◌}
+-- `apply`: a turn stores the next number of the table.
+use Rattle.std.proofs.Common.{refl, arith, length-set, ◌≡◌, ◌*◌}
 use Rattle.board.specs.Layout.{functions_max, hook_size}
-use Rattle.interrupt_array.specs.Hooks.{hook_at, array_number}
-use Rattle.interrupt_edit.specs.Changes.{after_change}
-use Rattle.interrupt_edit.proofs.Made.{made}
+use Rattle.numbers.specs.Tables.{table_from}
+use Rattle.numbers.proofs.Tables.{filled_more, filled_all}
 use Rattle.interrupt_edit.proofs.change.apply.Goals as goal
+
+pub loop-j-init : goal.loop-j-init
+unfolding table_from
+loop-j-init c = record { sized = c.told-hooks; filled = refl }
+
+pub loop-j-preserved : goal.loop-j-preserved
+loop-j-preserved c =
+    let l = c.loop-j in
+    record {
+      sized = simp length-set l.invariant.sized;
+      filled = filled_more _ l.j _ l.hooks (omega (arith, l.invariant.sized, c.loop-j-test.true)) c.number_after.ensures l.invariant.filled;
+    }
 
 pub returns : goal.returns
 returns c =
-    made _ (array_number (after_change c.args.change (hook_at c.args.hooks.now))) _ (functions_max * hook_size)
-    (λ i y q l k. search rules) _ c.from_fn.ensures.items
+    let l = c.loop-j in
+    let end : l.j ≡ functions_max * hook_size = omega arith in
+    filled_all _ _ l.hooks (omega (arith, l.invariant.sized)) (rw end at l.invariant.filled)
