@@ -7,12 +7,10 @@ use crate::forms::print_call;
 use crate::stop::Stop;
 use board::layout::{FUNCTIONS, HEADER, HOOK, MARK, RECORD, REGISTER_BYTES, WINDOWS};
 use board::parts::Board;
-use call::Call;
 use call_encoding::decode::{Decoded, decode};
 use call_encoding::encode::CALL_HEADER;
 use full_read::read_full;
 use script::turn::turn;
-use std::io;
 use std::io::{Read, Write};
 
 // The longest own buffer of a call in a trace.
@@ -53,21 +51,6 @@ fn read_call<R: Read>(input: &mut R, room: &mut Room, at: u64) -> Result<Option<
     Ok(Some(said))
 }
 
-// Room for a line: the longest, of a call that gives six descriptors, has some 640 bytes.
-const LINE: usize = 1024;
-
-// Prints a call that was performed in the room. Its line is put together before it is written, so
-// that it goes out by one write: one for each part of it took most of a replay's time.
-fn print_line<W: Write>(out: &mut W, call: Call, own: u32, room: &Room) -> io::Result<()> {
-    let (answer, left) = room.split_at(CALL_HEADER);
-    let mut line = [0u8; LINE];
-    let mut rest = &mut line[..];
-    print_call(&mut rest, call, own)?;
-    print_answer(&mut rest, call, answer, left)?;
-    let end = LINE.saturating_sub(rest.len());
-    out.write_all(&line[..end])
-}
-
 // Performs and prints the calls up to the end of the input, from the board before the first load;
 // gives how many there are. A proved loop has to end, and nothing says that the input does: so it
 // counts calls up to a number that no trace reaches.
@@ -96,7 +79,9 @@ pub(crate) fn replay<R: Read, W: Write>(
         let Some(took) = turn(&mut room, &mut board) else {
             return Err(Stop::Malformed(at));
         };
-        print_line(out, call, own, &room)?;
+        print_call(out, call, own)?;
+        let (answer, left) = room.split_at(CALL_HEADER);
+        print_answer(out, call, answer, left)?;
         at = at.wrapping_add(took as u64);
     }
     Ok(u64::MAX)

@@ -21,11 +21,7 @@ fn input_buffer() -> [u8; IMAGE + 1]
     [0u8; IMAGE + 1]
 }
 
-// Room for a line: the longest has 38 bytes.
-const LINE: usize = 64;
-
-// Space, start and length in eight hexadecimal digits, handle, base register, mark. The line is put
-// together before it is written, so that it goes out by one write.
+// Space, start and length in eight hexadecimal digits, handle, base register, mark.
 fn show<W: Write>(out: &mut W, listed: Listed) -> io::Result<()> {
     let (space, start, length) = match listed.window {
         ListedWindow::Memory { start, length } => ("mem", start.number(), length),
@@ -36,12 +32,8 @@ fn show<W: Write>(out: &mut W, listed: Listed) -> io::Result<()> {
     } else {
         "clear"
     };
-    let mut line = [0u8; LINE];
-    let mut rest = &mut line[..];
-    write!(rest, "{space} {start:08x} {length:08x} ")?;
-    writeln!(rest, "{} {} {mark}", listed.handle, listed.base)?;
-    let end = LINE.saturating_sub(rest.len());
-    out.write_all(&line[..end])
+    write!(out, "{space} {start:08x} {length:08x} ")?;
+    writeln!(out, "{} {} {mark}", listed.handle, listed.base)
 }
 
 fn list<W: Write>(out: &mut W, windows: &Windows) -> io::Result<()> {
